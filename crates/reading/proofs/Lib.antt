@@ -1,0 +1,5 @@
+pub mod Behind
+pub mod Agree
+pub mod Joins
+pub mod Places
+pub mod Sources

@@ -1,0 +1,2 @@
+pub mod Dremel
+pub mod Examples

@@ -1,0 +1,9 @@
+pub mod Counts
+pub mod Lines
+pub mod Shapes
+pub mod Paths
+pub mod Leaves
+pub mod Laws
+pub mod Small
+pub mod Ancestors
+pub mod Unused

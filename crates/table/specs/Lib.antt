@@ -1,0 +1,5 @@
+pub mod Kinds
+pub mod Table
+pub mod Buffers
+pub mod Paths
+pub mod Unread
