@@ -337,7 +337,11 @@ fn run(rt: &LibcRuntime, case: Case, slots: u32, repeats: u64) -> io::Result<()>
         least = least.min(start.elapsed(rt)?.as_nanos());
     }
     show(rt, "measure", each(least, entries))?;
-    show(rt, "filling one stream of levels", each(fill(rt, entries, repeats)?, entries))
+    show(
+        rt,
+        "filling one stream of levels",
+        each(fill(rt, entries, repeats)?, entries),
+    )
 }
 
 // The numbers that the program was called with; none stand for a small table and no timing.

@@ -149,20 +149,44 @@ pub fn slot_of(b: Branch, n: PathNode, most: usize, i: usize) -> Slot
     match n.kind {
         Kind::List => {
             let offsets = b.offsets32;
-            OffsetSlots { node, validity, offsets, most }.slot(i)
+            OffsetSlots {
+                node,
+                validity,
+                offsets,
+                most,
+            }.slot(i)
         }
         Kind::LargeList => {
             let offsets = b.offsets64;
-            OffsetSlots { node, validity, offsets, most }.slot(i)
+            OffsetSlots {
+                node,
+                validity,
+                offsets,
+                most,
+            }.slot(i)
         }
-        Kind::FixedSizeList => FixedSlots { node, validity, most }.slot(i),
+        Kind::FixedSizeList => FixedSlots {
+            node,
+            validity,
+            most,
+        }.slot(i),
         Kind::ListView => {
             let offsets = b.offsets32;
-            ViewSlots { node, validity, offsets, most }.slot(i)
+            ViewSlots {
+                node,
+                validity,
+                offsets,
+                most,
+            }.slot(i)
         }
         Kind::LargeListView => {
             let offsets = b.offsets64;
-            ViewSlots { node, validity, offsets, most }.slot(i)
+            ViewSlots {
+                node,
+                validity,
+                offsets,
+                most,
+            }.slot(i)
         }
         _ => {
             if valid_at(validity, n.validity, n.slots, i) {

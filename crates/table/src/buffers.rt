@@ -94,4 +94,3 @@ pub fn survey(source: &Source) -> Result<u32, Refusal>
     }
     Ok(leaves)
 }
-

@@ -127,4 +127,3 @@ pub fn shape(nodes: &[Node]) -> Result<u32, Refusal>
     }
     Ok(leaves)
 }
-

@@ -1,8 +1,9 @@
 ghost use mathlib.Core.Path.{_≡_};
 ghost use Prim.Native.Nat.{_+_, _<_, _≤_};
+ghost use lib.ListN.{length};
 ghost use Rattle.reading.specs.Slots.{inside, along};
 ghost use Rattle.reading.specs.Sound.{Sound};
-ghost use Rattle.walk.specs.Walk.{Walk-in, Visit-in, Run-or, Ready, Settled, Advanced, Descended, Stepped, passed, fresh};
+ghost use Rattle.walk.specs.Walk.{Walk-in, Visit-in, Run-or, Ready, Settled, Advanced, Descended, Stepped, passed, fresh, entered};
 use crate::runs::chain_run;
 use crate::visit::Look;
 use crate::visit::Visit;
@@ -117,6 +118,21 @@ impl Walk {
         }
     }
 
+    // A list with elements left becomes the innermost one.
+    fn enter(&mut self, node: usize, next: usize, end: usize, def: usize)
+        requires eight { ⌜ length (now self .frames) ≡ 8 ⌝ }
+        requires deep { ⌜ now self .depth < 8 ⌝ }
+        ensures { λ _. ⌜ now (self .exit) ≡ entered (now (self .entry)) node next end def ⌝ }
+    {
+        self.frames[self.depth] = Frame {
+            node,
+            next,
+            end,
+            def,
+        };
+        self.depth += 1;
+    }
+
     // The first stretch of what lies at and below v, whose other lists are left to the frames.
     fn descend(&mut self, b: Branch, v: Visit) -> Result<Stretch, Fault>
         requires sound { ⌜ Sound (inside b) (along b) ⌝ }
@@ -147,19 +163,14 @@ impl Walk {
                 }
                 Look::Inside(def, from, more) => {
                     let node = v.node + 1;
+                    let def = def + 1;
                     v = Visit {
                         node,
                         slot: from,
                         rep: v.rep,
-                        def: def + 1,
+                        def,
                     };
-                    self.frames[self.depth] = Frame {
-                        node,
-                        next: from + 1,
-                        end: from + 1 + more,
-                        def: def + 1,
-                    };
-                    self.depth += 1;
+                    self.enter(node, from + 1, from + 1 + more, def);
                 }
             }
         }

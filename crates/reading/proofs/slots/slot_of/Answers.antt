@@ -83,4 +83,3 @@ returns-in-LargeListView c =
     let b = inside (c .args .b) in
     let most = c .args .most in
     slot-as b n Kind.LargeListView most (c .args .i) (c .in-LargeListView .is) (c .pre .slot) (λ k. viewed most (map (λ (x : ℤ). x) (b .wide)) (n .offsets + k) (n .sizes + k)) (ap (λ xs. viewed most xs (n .offsets + c .args .i) (n .sizes + c .args .i)) (map-id (b .wide))) (c .slot-in-LargeListView .result) (c .slot-in-LargeListView .ensures)
-
