@@ -1,0 +1,4 @@
+mod Comments
+mod Comparing
+mod Parting
+mod Pushing
