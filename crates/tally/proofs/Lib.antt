@@ -1,0 +1,9 @@
+pub mod Packing
+pub mod Validity
+pub mod Traces
+pub mod Adding
+pub mod Nodes
+pub mod Holds
+pub mod Offsets
+pub mod Ranges
+pub mod Following

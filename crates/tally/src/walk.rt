@@ -1,0 +1,66 @@
+ghost use Prim.Native.Nat.{_-_, _<_, _≤_};
+ghost use lib.ListN.{length};
+ghost use Rattle.reading.specs.Slots.{inside, along};
+ghost use Rattle.reading.specs.Reading.{node-on};
+ghost use Rattle.reading.specs.Sound.{Sound};
+ghost use Rattle.reading.specs.Trace.{trace};
+ghost use Rattle.tally.specs.Answer.{Tallied, Sized-as};
+use crate::counts::Tally;
+use crate::flat::is_flat;
+use crate::flat::tally_flat;
+use crate::lists::next_reach;
+use reading::Branch;
+
+// The most entries that a range may have.
+const MOST: usize = 2_147_483_647;
+
+// The slots from..to of node k: neighbouring ones at once, by the range of slots below them.
+fn tally_at(b: Branch, k: usize, from: usize, to: usize) -> Option<Tally>
+    requires sound { ⌜ Sound (inside b) (along b) ⌝ }
+    requires node { ⌜ k < length (along b) ⌝ }
+    requires order { ⌜ from ≤ to ⌝ }
+    requires slots { ⌜ to ≤ node-on (along b) k .slots ⌝ }
+    ensures { λ r. ⌜ Sized-as (inside (b .entry)) (along (b .entry)) k from (to - from) r ⌝ }
+{
+    if is_flat(b.nodes, k) {
+        return tally_flat(b, k, from, to);
+    }
+    let mut i = from;
+    let mut entries: usize = 0;
+    let mut values: usize = 0;
+    while i < to {
+        match next_reach(b, k, i, to) {
+            None => return None,
+            Some(x) => {
+                if x.bare > MOST - entries {
+                    return None;
+                }
+                entries += x.bare;
+                if x.from < x.to {
+                    match tally_at(b, k + 1, x.from, x.to) {
+                        None => return None,
+                        Some(below) => {
+                            if below.entries > MOST - entries {
+                                return None;
+                            }
+                            entries += below.entries;
+                            values += below.values;
+                        }
+                    }
+                }
+                i += x.slots;
+            }
+        }
+    }
+    Some(Tally { entries, values })
+}
+
+// The entries and values of the rows from..to, if the range meets no fault and has at most 2,147,483,647 entries; `None` says nothing.
+pub fn tally(b: Branch, from: usize, to: usize) -> Option<Tally>
+    requires sound { ⌜ Sound (inside b) (along b) ⌝ }
+    requires order { ⌜ from ≤ to ⌝ }
+    requires slots { ⌜ to ≤ node-on (along b) 0 .slots ⌝ }
+    ensures { λ r. ⌜ Tallied (trace (inside (b .entry)) (along (b .entry)) from (to - from)) r ⌝ }
+{
+    tally_at(b, 0, from, to)
+}
