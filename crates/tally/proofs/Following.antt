@@ -66,9 +66,6 @@ stop-of Slot.Empty = 0
 stop-of (Slot.Spanned p) = p .1
 stop-of Slot.Wrong = 0
 
-apart : {A : Type 0} (x y : Slot) → x ≡ y → (sort-of x ≡ sort-of y → ⊥) → A
-apart x y e h = absurd (h (ap sort-of e))
-
 some-held : (t : Bool) (a c : ℕ) → 0 < sort-of (cond t Slot.Empty (Slot.Spanned (a, a + c)))
 some-held true a c = omega arith
 some-held false a c = omega arith

@@ -42,9 +42,6 @@ agree false x e = e
 
 module _ (bs : List ℕ) (start : Option ℕ) (from i end count other : ℕ) (t : Bool) (is : t ≡ valid-in bs start from) (digits : other ≡ packed (differs t (valid-in bs start)) count i) (few : count ≤ 56) (fits : i + count ≤ end)
     (low : from < i) (had : (k : ℕ) → from ≤ k → k < i → valid-in bs start k ≡ valid-in bs start from) where
-  f : ℕ → Bool
-  f = valid-in bs start
-
   on : (n : ℕ) → ((k : ℕ) → i ≤ k → k < i + n → differs t (valid-in bs start) k ≡ false) → (k : ℕ) → from ≤ k → k < i + n → valid-in bs start k ≡ valid-in bs start from
   on n h k l m = elim (decLt k i) [ yes p ↦ had k l p | no p ↦ agree t (valid-in bs start k) (h k (omega arith) m) ∙ is ]
 

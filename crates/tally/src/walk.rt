@@ -4,7 +4,7 @@ ghost use Rattle.reading.specs.Slots.{inside, along};
 ghost use Rattle.reading.specs.Reading.{node-on};
 ghost use Rattle.reading.specs.Sound.{Sound};
 ghost use Rattle.reading.specs.Trace.{trace};
-ghost use Rattle.tally.specs.Answer.{Tallied, Sized-as};
+ghost use Rattle.tally.specs.Answer.{Added, Tallied, Sized-as};
 use crate::counts::Tally;
 use crate::flat::is_flat;
 use crate::flat::tally_flat;
@@ -13,6 +13,26 @@ use reading::Branch;
 
 // The most entries that a range may have.
 const MOST: usize = 2_147_483_647;
+
+// What is counted so far, with the bare entries of some slots more and what lies below these; too many entries are not counted.
+fn with_more(had: Tally, bare: usize, below: Tally) -> Option<Tally>
+    requires few { ⌜ had .entries ≤ 2147483647 ⌝ }
+    requires had { ⌜ had .values ≤ had .entries ⌝ }
+    requires below { ⌜ below .values ≤ below .entries ⌝ }
+    ensures { λ r. ⌜ Added had bare below r ⌝ }
+{
+    if bare > MOST - had.entries {
+        return None;
+    }
+    let entries = had.entries + bare;
+    if below.entries > MOST - entries {
+        return None;
+    }
+    Some(Tally {
+        entries: entries + below.entries,
+        values: had.values + below.values,
+    })
+}
 
 // The slots from..to of node k: neighbouring ones at once, by the range of slots below them.
 fn tally_at(b: Branch, k: usize, from: usize, to: usize) -> Option<Tally>
@@ -25,34 +45,28 @@ fn tally_at(b: Branch, k: usize, from: usize, to: usize) -> Option<Tally>
     if is_flat(b.nodes, k) {
         return tally_flat(b, k, from, to);
     }
+    let flat_below = is_flat(b.nodes, k + 1);
     let mut i = from;
-    let mut entries: usize = 0;
-    let mut values: usize = 0;
+    let mut all = Tally {
+        entries: 0,
+        values: 0,
+    };
     while i < to {
-        match next_reach(b, k, i, to) {
-            None => return None,
-            Some(x) => {
-                if x.bare > MOST - entries {
-                    return None;
-                }
-                entries += x.bare;
-                if x.from < x.to {
-                    match tally_at(b, k + 1, x.from, x.to) {
-                        None => return None,
-                        Some(below) => {
-                            if below.entries > MOST - entries {
-                                return None;
-                            }
-                            entries += below.entries;
-                            values += below.values;
-                        }
-                    }
-                }
-                i += x.slots;
+        let x = next_reach(b, k, i, to)?;
+        let below = if x.from == x.to {
+            Tally {
+                entries: 0,
+                values: 0,
             }
-        }
+        } else if flat_below {
+            tally_flat(b, k + 1, x.from, x.to)?
+        } else {
+            tally_at(b, k + 1, x.from, x.to)?
+        };
+        all = with_more(all, x.bare, below)?;
+        i += x.slots;
     }
-    Some(Tally { entries, values })
+    Some(all)
 }
 
 // The entries and values of the rows from..to, if the range meets no fault and has at most 2,147,483,647 entries; `None` says nothing.

@@ -1,4 +1,4 @@
-use mathlib.Core.Path.{_≡_, refl, ap, ap₂, sym, _∙_}
+use mathlib.Core.Path.{_≡_, refl, ap, ap₂, sym, subst, _∙_}
 use mathlib.Core.List.{List}
 use Prim.Native.Nat.{ℕ, _+_, _-_, _≤_, _<_}
 use native.Mathlib.Omega.{arith}
@@ -6,47 +6,61 @@ use lib.ListN.{drop}
 use Rattle.std.specs.declared.option.Option.the-variants.{Some}
 use Rattle.table.specs.declared.leaf_path.PathNode.{PathNode}
 use Rattle.reading.specs.Slots.{Buffers, inside, along}
+use Rattle.tally.specs.declared.counts.Tally.{Tally}
 use Rattle.tally.specs.declared.reach.Reach.{Reach}
 use Rattle.tally.specs.Sizes.{_plus_, size-at, sizes}
+use Rattle.tally.specs.Answer.{Sized-as, Sum-of}
 use Rattle.tally.specs.Reaching.{Reaches}
 use Rattle.tally.proofs.Adding.{size-on}
 use Rattle.tally.proofs.walk.+tally_at.Needs as need
-use Rattle.tally.proofs.walk.+tally_at.Needs.{then-x·in-Some-tally-at·else-below-entries, else-x}
+use Rattle.tally.proofs.walk.+tally_at.Needs.{then-x, else-x·then-flat-below·in-Continue-below, else-x·else-flat-below·in-Continue-below-2}
+
+-- what lies below the slots of one reach
+abbrev Below : Buffers → List PathNode → ℕ → Reach → Tally → Type 0
+Below b ns k x below = Sized-as b ns (k + 1) (x .from) (x .to - x .from) (Some below)
+
+none : (b : Buffers) (ns : List PathNode) (k : ℕ) (x : Reach) (below : Tally) → x .from ≡ x .to → below ≡ record { entries = 0; values = 0 } → Below b ns k x below
+none b ns k x below e is =
+    let z : x .to - x .from ≡ 0 = omega arith in
+    subst (Below b ns k x) (sym is) (ap (sizes b ns (k + 1) (x .from)) z, omega arith, omega arith)
 
 -- the slots of one reach behind those that are counted
-module _ (b : Buffers) (ns : List PathNode) (k from i end entries values : ℕ) (low : from ≤ i) (had : sizes b ns k from (i - from) ≡ Some (entries, values)) (x : Reach) (r : Reaches b ns k i end x) where
-  on : (e v : ℕ) → sizes b ns (k + 1) (x .from) (x .to - x .from) ≡ Some (e, v) → (e′ v′ : ℕ) → e′ ≡ entries + x .bare + e → v′ ≡ values + v → sizes b ns k from (i + x .slots - from) ≡ Some (e′, v′)
-  on e v child e′ v′ p q =
-      let s : entries + (x .bare + e) ≡ e′ = omega arith in
-      let t : values + (0 + v) ≡ v′ = omega arith in
-      size-on (size-at b (drop k ns)) from i (x .slots) low
-      ∙ ap₂ (λ y z. y plus z) had (r .size ∙ ap (λ y. Some (x .bare, 0) plus y) child)
-      ∙ ap₂ (λ y z. Some (y, z)) s t
+on : (b : Buffers) (ns : List PathNode) (k from i end : ℕ) (had : Tally) → from ≤ i → sizes b ns k from (i - from) ≡ Some (had .entries, had .values) → (x : Reach) → Reaches b ns k i end x → (below all : Tally) → Below b ns k x below → Sum-of had (x .bare) below all → sizes b ns k from (i + x .slots - from) ≡ Some (all .entries, all .values)
+on b ns k from i end had low e x r below all h s =
+    let p : had .entries + (x .bare + below .entries) ≡ all .entries = omega (arith, s .entries) in
+    let q : had .values + (0 + below .values) ≡ all .values = omega (arith, s .values) in
+    size-on (size-at b (drop k ns)) from i (x .slots) low
+    ∙ ap₂ (λ y z. y plus z) e (r .size ∙ ap (λ y. Some (x .bare, 0) plus y) (h .0))
+    ∙ ap₂ (λ y z. Some (y, z)) p q
 
-  none : x .to ≤ x .from → sizes b ns (k + 1) (x .from) (x .to - x .from) ≡ Some (0, 0)
-  none h = let z : x .to - x .from ≡ 0 = omega arith in ap (sizes b ns (k + 1) (x .from)) z
+pub with-more-requires : need.with-more-requires
+with-more-requires t c κs =
+    let b = inside (c .args .b) in
+    let ns = along (c .args .b) in
+    let x : Reach = c .in-Continue-x .x in
+    let h : Below b ns (c .args .k) x (c .if-x .below) = elim (c .if-x .came) [
+      | then-x w ↦ none b ns (c .args .k) x (c .if-x .below) (w .if-x .taken) (w .below-is)
+      | else-x·then-flat-below·in-Continue-below w ↦ subst (Below b ns (c .args .k) x) (sym (w .below-is)) (w .in-Continue-below .ensures tt)
+      | else-x·else-flat-below·in-Continue-below-2 w ↦ subst (Below b ns (c .args .k) x) (sym (w .below-is)) (w .in-Continue-below-2 .ensures tt)
+    ] in
+    record { few = c .loop-i .inv .3; had = c .loop-i .inv .4; below = h .2 }
 
 pub loop-i-again : need.loop-i-again
 loop-i-again t c =
     let b = inside (c .args .b) in
     let ns = along (c .args .b) in
     let inv = c .loop-i .inv in
-    let x : Reach = c .in-Some .x in
-    let r : Reaches b ns (c .args .k) (c .loop-i .i) (c .args .to) x = c .in-Some .ensures tt in
-    elim (c .if-x .came) [
-      | then-x·in-Some-tally-at·else-below-entries w ↦
-          let below = w .in-Some-tally-at .ensures tt in (
-            omega (arith, inv .0),
-            r .inside,
-            on b ns (c .args .k) (c .args .from) (c .loop-i .i) (c .args .to) (c .loop-i .entries) (c .loop-i .values) (inv .0) (inv .2) x r (w .in-Some-tally-at .below .entries) (w .in-Some-tally-at .below .values) (below .0) (c .if-x .entries) (c .if-x .values) (w .entries-is) (w .values-is),
-            omega (arith, w .entries-is, w .if-below-entries .left, c .if-x-entries .left, inv .3),
-            omega (arith, w .entries-is, w .values-is, inv .4, below .2),
-          )
-      | else-x w ↦ (
-        omega (arith, inv .0),
-        r .inside,
-        on b ns (c .args .k) (c .args .from) (c .loop-i .i) (c .args .to) (c .loop-i .entries) (c .loop-i .values) (inv .0) (inv .2) x r 0 0 (none b ns (c .args .k) (c .args .from) (c .loop-i .i) (c .args .to) (c .loop-i .entries) (c .loop-i .values) (inv .0) (inv .2) x r (w .if-x .left)) (c .if-x .entries) (c .if-x .values) (omega (arith, w .entries-is)) (omega (arith, w .values-is)),
-        omega (arith, w .entries-is, c .if-x-entries .left, inv .3),
-        omega (arith, w .entries-is, w .values-is, inv .4),
-      )
-    ]
+    let x : Reach = c .in-Continue-x .x in
+    let r : Reaches b ns (c .args .k) (c .loop-i .i) (c .args .to) x = c .in-Continue-x .ensures tt in
+    let h : Below b ns (c .args .k) x (c .if-x .below) = elim (c .if-x .came) [
+      | then-x w ↦ none b ns (c .args .k) x (c .if-x .below) (w .if-x .taken) (w .below-is)
+      | else-x·then-flat-below·in-Continue-below w ↦ subst (Below b ns (c .args .k) x) (sym (w .below-is)) (w .in-Continue-below .ensures tt)
+      | else-x·else-flat-below·in-Continue-below-2 w ↦ subst (Below b ns (c .args .k) x) (sym (w .below-is)) (w .in-Continue-below-2 .ensures tt)
+    ] in
+    let s : Sum-of (c .loop-i .all) (x .bare) (c .if-x .below) (c .in-Continue-all .all) = c .in-Continue-all .ensures tt in (
+      omega (arith, inv .0),
+      r .inside,
+      on b ns (c .args .k) (c .args .from) (c .loop-i .i) (c .args .to) (c .loop-i .all) (inv .0) (inv .2) x r (c .if-x .below) (c .in-Continue-all .all) h s,
+      s .few,
+      omega (arith, s .entries, s .values, inv .4, h .2),
+    )

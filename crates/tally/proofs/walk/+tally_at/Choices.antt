@@ -12,8 +12,8 @@ abbrev pub μ-tally-at : given.MeasureT-tally-at
 abbrev pub Inv-loop-i : given.InvT-loop-i
 Inv-loop-i l =
     (l .from ≤ l .i) × (l .i ≤ l .to)
-    × (sizes (inside (l .b)) (along (l .b)) (l .k) (l .from) (l .i - l .from) ≡ Some (l .entries, l .values))
-    × (l .entries ≤ 2147483647) × (l .values ≤ l .entries)
+    × (sizes (inside (l .b)) (along (l .b)) (l .k) (l .from) (l .i - l .from) ≡ Some (l .all .entries, l .all .values))
+    × (l .all .entries ≤ 2147483647) × (l .all .values ≤ l .all .entries)
 
 abbrev pub μ-loop-i : given.MeasureT-loop-i
 μ-loop-i l = l .to - l .i
