@@ -88,7 +88,7 @@ pub record Counting (nodes : List PathNode) (i definition repetition : ℕ) : Ty
   pub most-is : most (path nodes) 0 ≡ most (path (drop i nodes)) definition
   pub deep-is : deep (path nodes) 0 ≡ deep (path (drop i nodes)) repetition
 
-over-low : (b : Bool) (d : ℕ) → over b d ≤ d + 1
+pub over-low : (b : Bool) (d : ℕ) → over b d ≤ d + 1
 over-low true d = omega arith
 over-low false d = omega arith
 

@@ -18,7 +18,7 @@ use Rattle.table.specs.Paths.{Step, ends, passes, repeats, step-of, above, pat
 use Rattle.std.proofs.shelf.Tests.{eqb-true}
 use Rattle.table.proofs.Laws.{line-last}
 use Rattle.table.proofs.Leaves.{Leaf-of, leaf-of}
-use Rattle.table.proofs.Paths.{line-some}
+use Rattle.table.proofs.Paths.{line-some, over-low}
 use Rattle.std.proofs.shelf.Lists.{length-map, getD-map}
 
 -- how many steps a path has before its leaf
@@ -26,10 +26,6 @@ abbrev pub before : Path → ℕ
 before (leaf n) = 0
 before (struct n p) = suc (before p)
 before (list n s p) = suc (before p)
-
-over-low : (b : Bool) (d : ℕ) → over b d ≤ d + 1
-over-low true d = omega arith
-over-low false d = omega arith
 
 most-low : (p : Path) (d : ℕ) → most p d ≤ 2 * before p + 1 + d
 most-low (leaf n) d = omega (arith, over-low n d)
