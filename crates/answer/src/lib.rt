@@ -1,4 +1,6 @@
 // What an action answers, as text.
+ghost use mathlib.Core.Path.{_≡_};
+ghost use Rattle.answer.specs.Reached.{reachedNode};
 use std::fmt;
 use table::Cause;
 use table::Fault;
@@ -33,7 +35,9 @@ fn refusal_name(refusal: Refusal) -> &'static str {
 }
 
 // The node that a refusal speaks of.
-pub fn node_of(refusal: Refusal) -> Option<usize> {
+pub fn node_of(refusal: Refusal) -> Option<usize>
+    ensures { λ r. ⌜ r ≡ reachedNode refusal ⌝ }
+{
     match refusal {
         Refusal::Reached(fault) => Some(fault.node),
         _ => None,

@@ -1,8 +1,13 @@
 // Reads one line of a job.
-ghost use mathlib.Core.List.{map};
+ghost use mathlib.Core.Path.{_≡_};
+ghost use mathlib.Core.List.{map, []};
+ghost use Rattle.std.specs.Of.Vec.{vec-items};
 ghost use denote.Ref.{now};
 ghost use Rattle.std.specs.Vec.{made};
-ghost use Rattle.job.specs.Lines.{MeasureRead, NodeRead};
+ghost use Rattle.line_fault.specs.declared.Key.the-variants.{Offset};
+ghost use Rattle.words.specs.Words.{wordsOf};
+ghost use Rattle.part.specs.Reads.{ByteRead, Signed};
+ghost use Rattle.job.specs.Lines.{MeasureRead, NodeRead, NodeSays, Each, Says, LineSays};
 use keyed::name_given;
 use keyed::number_given;
 use keyed::number_needed;
@@ -23,28 +28,34 @@ use table::Node;
 use words::is_word;
 use words::words_of;
 
-fn validity(heap: Global, words: &[&[u8]]) -> Result<Statement, LineFault> {
+fn validity(heap: Global, words: &[&[u8]]) -> Result<Vec<u8>, LineFault>
+    ensures { λ r. ⌜ made r (λ v. Each ByteRead (map (λ w. w .now) (now (words .entry))) (vec-items v)) ⌝ }
+{
     let mut bytes = Vec::new(heap);
     for word in words {
         bytes.push(part::byte(word)?)?;
     }
-    Ok(Statement::Validity(bytes))
+    Ok(bytes)
 }
 
-fn offsets32(heap: Global, words: &[&[u8]]) -> Result<Statement, LineFault> {
+fn offsets32(heap: Global, words: &[&[u8]]) -> Result<Vec<i32>, LineFault>
+    ensures { λ r. ⌜ made r (λ v. Each (Signed 32 Offset) (map (λ w. w .now) (now (words .entry))) (vec-items v)) ⌝ }
+{
     let mut offsets = Vec::new(heap);
     for word in words {
         offsets.push(part::signed32(word, Key::Offset)?)?;
     }
-    Ok(Statement::Offsets32(offsets))
+    Ok(offsets)
 }
 
-fn offsets64(heap: Global, words: &[&[u8]]) -> Result<Statement, LineFault> {
+fn offsets64(heap: Global, words: &[&[u8]]) -> Result<Vec<i64>, LineFault>
+    ensures { λ r. ⌜ made r (λ v. Each (Signed 64 Offset) (map (λ w. w .now) (now (words .entry))) (vec-items v)) ⌝ }
+{
     let mut offsets = Vec::new(heap);
     for word in words {
         offsets.push(part::signed64(word, Key::Offset)?)?;
     }
-    Ok(Statement::Offsets64(offsets))
+    Ok(offsets)
 }
 
 fn measure(words: &[&[u8]]) -> Result<Action, LineFault>
@@ -83,7 +94,9 @@ const NODE_KEYS: [Key; 7] = [
     Key::Name,
 ];
 
-fn node(heap: Global, words: &[&[u8]]) -> Result<NamedNode, LineFault> {
+fn node(heap: Global, words: &[&[u8]]) -> Result<NamedNode, LineFault>
+    ensures { λ r. ⌜ made r (λ n. NodeSays (map (λ w. w .now) (now (words .entry))) n) ⌝ }
+{
     match words {
         [] => Err(LineFault::Missing(Key::Kind)),
         [kind] => {
@@ -102,28 +115,34 @@ fn node(heap: Global, words: &[&[u8]]) -> Result<NamedNode, LineFault> {
     }
 }
 
-// A statement that has no parts.
-fn alone(statement: Statement, words: &[&[u8]]) -> Result<Statement, LineFault> {
+// Refuses words behind a statement that has no parts.
+fn alone(words: &[&[u8]]) -> Result<(), LineFault>
+    ensures { λ r. ⌜ made r (λ _. (map (λ w. w .now) (now (words .entry))) ≡ []) ⌝ }
+{
     if words.is_empty() {
-        Ok(statement)
+        Ok(())
     } else {
         Err(LineFault::Misplaced(2))
     }
 }
 
-fn statement_of(heap: Global, first: &[u8], words: &[&[u8]]) -> Result<Statement, LineFault> {
+fn statement_of(heap: Global, first: &[u8], words: &[&[u8]]) -> Result<Statement, LineFault>
+    ensures { λ r. ⌜ made r (λ s. Says (now (first .entry)) (map (λ w. w .now) (now (words .entry))) s) ⌝ }
+{
     if is_word(first, b"node") {
         Ok(Statement::Node(node(heap, words)?))
     } else if is_word(first, b"validity") {
-        validity(heap, words)
+        Ok(Statement::Validity(validity(heap, words)?))
     } else if is_word(first, b"offsets32") {
-        offsets32(heap, words)
+        Ok(Statement::Offsets32(offsets32(heap, words)?))
     } else if is_word(first, b"offsets64") {
-        offsets64(heap, words)
+        Ok(Statement::Offsets64(offsets64(heap, words)?))
     } else if is_word(first, b"clear") {
-        alone(Statement::Clear, words)
+        alone(words)?;
+        Ok(Statement::Clear)
     } else if is_word(first, b"survey") {
-        alone(Statement::Do(Action::Survey), words)
+        alone(words)?;
+        Ok(Statement::Do(Action::Survey))
     } else if is_word(first, b"measure") {
         Ok(Statement::Do(measure(words)?))
     } else {
@@ -132,7 +151,9 @@ fn statement_of(heap: Global, first: &[u8], words: &[&[u8]]) -> Result<Statement
 }
 
 // The statement of a line, or none where it is empty or only a comment.
-pub fn parse(heap: Global, line: &[u8]) -> Result<Option<Statement>, LineFault> {
+pub fn parse(heap: Global, line: &[u8]) -> Result<Option<Statement>, LineFault>
+    ensures { λ r. ⌜ made r (λ s. LineSays (wordsOf (now (line .entry))) s) ⌝ }
+{
     let words = words_of(heap, line)?;
     match words.as_slice() {
         [] => Ok(None),

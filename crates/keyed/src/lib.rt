@@ -2,12 +2,16 @@
 ghost use mathlib.Core.Path.{_≡_};
 ghost use mathlib.Core.List.{map};
 ghost use denote.Ref.{now};
+ghost use Rattle.std.specs.Of.String.{string-bytes};
 ghost use Rattle.std.specs.Options.{mapped};
+ghost use Rattle.std.specs.Results.{Cases};
+ghost use Rattle.std.specs.Vec.{made};
 ghost use Rattle.std.specs.declared.option.Option.the-variants.{None, Some};
 ghost use Rattle.std.specs.declared.result.Result.the-variants.{Ok, Err};
+ghost use Rattle.line_fault.specs.declared.Key.the-variants.{Name};
 ghost use Rattle.line_fault.specs.declared.LineFault.the-variants.{Missing};
 ghost use Rattle.part.specs.Reads.{Unsigned, RangeRead};
-ghost use Rattle.keyed.specs.Keyed.{after, valueOf, values, Given, Part, Optional};
+ghost use Rattle.keyed.specs.Keyed.{after, valueOf, values, Given, Part, Optional, Named, oneOf, misplaced, Told};
 use line_fault::Key;
 use line_fault::LineFault;
 use statement::Rows;
@@ -51,7 +55,9 @@ fn given<'a>(words: &[&'a [u8]], key: Key) -> Result<Option<&'a [u8]>, LineFault
     Ok(found)
 }
 
-fn is_one_of(word: &[u8], keys: &[Key]) -> bool {
+fn is_one_of(word: &[u8], keys: &[Key]) -> bool
+    ensures { λ r. ⌜ r ≡ oneOf (now (keys .entry)) (now (word .entry)) ⌝ }
+{
     for key in keys {
         if value_of(word, *key).is_some() {
             return true;
@@ -61,7 +67,9 @@ fn is_one_of(word: &[u8], keys: &[Key]) -> bool {
 }
 
 // Refuses a word that is no part of one of the keys; `before` words stand before these.
-pub fn only(words: &[&[u8]], before: usize, keys: &[Key]) -> Result<(), LineFault> {
+pub fn only(words: &[&[u8]], before: usize, keys: &[Key]) -> Result<(), LineFault>
+    ensures { λ r. ⌜ Cases r (λ _. misplaced (now (keys .entry)) before (map (λ w. w .now) (now (words .entry))) ≡ None) (λ e. Told (misplaced (now (keys .entry)) before (map (λ w. w .now) (now (words .entry)))) e) ⌝ }
+{
     let mut place = before;
     for word in words {
         place = place.saturating_add(1);
@@ -127,7 +135,9 @@ pub fn number_given(words: &[&[u8]], key: Key) -> Result<Option<u64>, LineFault>
     }
 }
 
-pub fn name_given(heap: Global, words: &[&[u8]]) -> Result<Option<String>, LineFault> {
+pub fn name_given(heap: Global, words: &[&[u8]]) -> Result<Option<String>, LineFault>
+    ensures { λ r. ⌜ made r (λ name. Named string-bytes (values Name (map (λ w. w .now) (now (words .entry)))) name) ⌝ }
+{
     match given(words, Key::Name)? {
         Some(text) => Ok(Some(part::name(heap, text)?)),
         None => Ok(None),

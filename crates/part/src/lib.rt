@@ -1,7 +1,9 @@
 // What one word of a statement, or a part of a word, means: numbers, ranges, kinds.
 ghost use mathlib.Core.Path.{_≡_};
 ghost use Prim.Native.Nat.{ℕ, _<_};
+ghost use Rattle.std.specs.Of.String.{string-bytes};
 ghost use Rattle.std.specs.Options.{Cases as BySome};
+ghost use Rattle.std.specs.Vec.{made};
 ghost use Rattle.part.specs.Reads.{Unsigned, Signed, ByteRead, DotsAt, FirstDots, RangeRead, kindNamed, KindRead, NullabilityRead};
 use line_fault::Key;
 use line_fault::LineFault;
@@ -128,7 +130,10 @@ pub fn nullable(text: &[u8]) -> Result<bool, LineFault>
     }
 }
 
-pub fn name(heap: Global, text: &[u8]) -> Result<String, LineFault> {
+// The text itself.
+pub fn name(heap: Global, text: &[u8]) -> Result<String, LineFault>
+    ensures { λ r. ⌜ made r (λ s. string-bytes s ≡ now (text .entry)) ⌝ }
+{
     match from_utf8(text) {
         Ok(text) => Ok(String::from_str(heap, text)?),
         Err(_) => Err(LineFault::NotText(Key::Name)),

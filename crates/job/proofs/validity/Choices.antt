@@ -1,0 +1,11 @@
+-- each word so far has given its item
+use mathlib.Core.List.{map}
+use lib.ListN.{take}
+use denote.Ref.{now}
+use Rattle.std.specs.Of.Vec.{vec-items}
+use Rattle.part.specs.Reads.{ByteRead}
+use Rattle.job.specs.Lines.{Each}
+use Rattle.job.proofs.validity.Given as given
+
+abbrev pub Inv-loop-word : given.InvT-loop-word
+Inv-loop-word l = Each ByteRead (map (λ w. w .now) (take (l .word-index) (l .words))) (vec-items (l .bytes))

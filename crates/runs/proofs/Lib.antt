@@ -1,0 +1,3 @@
+pub mod Spreads
+pub mod Changes
+pub mod Lasts

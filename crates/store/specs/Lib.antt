@@ -1,0 +1,5 @@
+pub mod Codes
+pub mod Filled
+pub mod Growing
+pub mod Reads
+pub mod Stores
