@@ -1,4 +1,6 @@
 // What an action answers, as text.
+#![tactic(auto)]
+
 ghost use Rattle.std.specs.Prelude.{◌≡◌};
 ghost use Rattle.answer.specs.Reached.{reached_node};
 

@@ -1,5 +1,7 @@
 // Times `measure` on tables of one shape each. `bench` measures small tables and prints their counts;
 // `bench SLOTS REPEATS` measures tables of about so many leaf slots and prints the least time an entry took.
+#![tactic(auto)]
+
 ghost use Rattle.std.specs.Prelude.{◌<◌};
 
 use std::alloc::{AllocError, Global};

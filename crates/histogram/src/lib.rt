@@ -1,4 +1,6 @@
 // A layer that counts the levels of the store below it. Layers pile: a layer is a store.
+#![tactic(auto)]
+
 ghost use Rattle.std.specs.Prelude.{◌≡◌};
 ghost use Rattle.histogram.specs.Histograms.{Counted, HistogramOrdered};
 

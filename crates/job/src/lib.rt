@@ -1,4 +1,6 @@
 // Reads one line of a job.
+#![tactic(auto)]
+
 ghost use Rattle.std.specs.Prelude.{◌≡◌, [], map, IfOk, OnOk};
 ghost use Rattle.line_fault.specs.declared.Key.TheVariants.{Offset};
 ghost use Rattle.words.specs.Words.{words_of};

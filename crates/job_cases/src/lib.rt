@@ -1,4 +1,6 @@
 // What the parser makes of one line: each statement, and each way in which a line cannot be read.
+#![tactic(auto)]
+
 use job::parse;
 use std::alloc::{AllocError, Global};
 

@@ -1,4 +1,6 @@
 // The table and its buffers, as the statements give them. Where memory fails, all stays as it was.
+#![tactic(auto)]
+
 ghost use Rattle.std.specs.Prelude.{◌≡◌, [], ◌∷◌, ◌++◌, is_ok, if◌then◌else◌};
 
 use std::alloc::{AllocError, Global};

@@ -1,4 +1,6 @@
 // The parts of a statement that are words key=value.
+#![tactic(auto)]
+
 ghost use Rattle.std.specs.Prelude.{◌≡◌, map, IfOk, Some, None, Ok, Err, string_bytes, MatchResult};
 ghost use Rattle.std.specs.Option.{option_map};
 ghost use Rattle.line_fault.specs.declared.Key.TheVariants.{Name};

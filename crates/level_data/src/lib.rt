@@ -1,4 +1,6 @@
 // A store that is empty, holds one level some number of times, or holds its levels one by one in borrowed memory.
+#![tactic(auto)]
+
 ghost use Rattle.std.specs.Prelude.{◌≡◌, ◌≤◌, length, replicate};
 ghost use Rattle.level_data.specs.Data.{data_meaning, data_most, data_bounded, DataStands, Formed, Written};
 ghost use Rattle.level_data.specs.declared.Form.TheVariants.{Empty, Materialized};

@@ -1,4 +1,6 @@
 // Reads a job, line by line, from the files that are named or from standard input, and prints what each action does.
+#![tactic(auto)]
+
 use answer::{Answer, Outcome};
 use job::parse;
 use job_table::Table;

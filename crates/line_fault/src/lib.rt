@@ -1,4 +1,6 @@
 // What is wrong with a line of a job.
+#![tactic(auto)]
+
 ghost use Rattle.std.specs.Prelude.{◌≡◌};
 ghost use Rattle.line_fault.specs.Keys.{key_text};
 

@@ -1,4 +1,6 @@
 // What one word of a statement, or a part of a word, means: numbers, ranges, kinds.
+#![tactic(auto)]
+
 ghost use Rattle.std.specs.Prelude.{◌≡◌, ℕ, ◌<◌, IfOk, string_bytes, MatchOption};
 ghost use Rattle.part.specs.Reads.{Unsigned, Signed, ByteRead, DotsAt, FirstDots, RangeRead, kind_named, KindRead, NullabilityRead};
 

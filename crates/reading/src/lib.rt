@@ -1,4 +1,6 @@
 // What a source reads as along the path to one leaf: validity bits, the slots of lists, rows, and the trace of a range of rows.
+#![tactic(auto)]
+
 ghost use Rattle.reading.specs.Trace.{TraceIsStriping};
 ghost use Rattle.reading.specs.Sound.{SourcesAreSound};
 

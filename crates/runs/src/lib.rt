@@ -1,4 +1,6 @@
 // A store of levels as runs: one record of borrowed memory for levels in a row that are equal.
+#![tactic(auto)]
+
 ghost use Rattle.std.specs.Prelude.{◌≡◌, ℕ, ◌+◌, ◌<◌, ◌≤◌, ◌++◌, length, take, drop, pos, slice_index_or};
 ghost use Rattle.runs.specs.Kept.{records, run_most, run_held, run_levels, run_meaning, RunStands, run_bounded};
 ghost use Rattle.runs.specs.Runs.{run_long, spread, lastly, no_run, level_before, Located, unless_empty};

@@ -1,4 +1,6 @@
 // What a line of a job says.
+#![tactic(auto)]
+
 pub mod text;
 
 use table::Node;

@@ -1,5 +1,7 @@
 // Times appending levels to each make of store and reading them back in order. `store_bench` runs small stores and prints
 // what they hold; `store_bench COUNT REPEATS` prints the least time that a level took, beside a plain fill of the same memory.
+#![tactic(auto)]
+
 use histogram::Histogram;
 use level_data::LevelData;
 use runs::{Run, RunStore};

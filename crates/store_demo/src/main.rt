@@ -1,4 +1,6 @@
 // Runs the same code over each make of store and over piles of layers, and prints what it did.
+#![tactic(auto)]
+
 ghost use Rattle.std.specs.Prelude.{◌≡◌, ℕ, ◌<◌, ◌≤◌, ◌++◌, length, replicate, pos, slice_index};
 ghost use Rattle.histogram.specs.Tallies.{occurrences};
 

@@ -1,4 +1,6 @@
 // Code over any level store, which sees no more of it than the trait's contracts.
+#![tactic(auto)]
+
 ghost use Rattle.std.specs.Prelude.{◌≡◌, ◌+◌, ◌*◌, ◌<◌, [], ◌∷◌, ◌++◌, length, replicate, MatchBool, MatchResult, ◌≢◌};
 ghost use Rattle.store.specs.declared.refusal.Refusal.TheVariants.{NoRoom};
 

@@ -1,4 +1,6 @@
 // Node tables over three buffers: the rules that they meet, and the path to a leaf.
+#![tactic(auto)]
+
 ghost use Rattle.table.specs.Unread.{NotRead, LinesAreAncestors};
 
 mod buffers;

@@ -1,4 +1,6 @@
 // How many entries and values a range of rows has: fast, and exact where it answers.
+#![tactic(auto)]
+
 mod bits;
 mod counts;
 mod flat;

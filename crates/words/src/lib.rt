@@ -1,4 +1,6 @@
 // The words of a line: what stands between blanks, up to a `#`.
+#![tactic(auto)]
+
 ghost use Rattle.std.specs.Prelude.{◌≡◌, ◌<◌, ◌≤◌, [], map, IfOk};
 ghost use Rattle.words.specs.Words.{blank, uncommented, parted, same, words_of};
 
