@@ -14,7 +14,7 @@ loop-at-init c =
 
 pub returns-then-at-eq0 : goal.returns-then-at-eq0
 returns-then-at-eq0 c =
-    ap (set c.loop-at.path (c.loop-at.k - 1)) c.on-path.ensures
+    ap (set c.loop-at.path (c.loop-at.k - 1)) c.on_path.ensures
     ∙ climbing_end c.args.nodes.now c.args.from c.requires.within c.requires.rising (nodes_to c.args.nodes.now c.args.from ++ replicate (8 - c.args.count) no_path_node)
     c.loop-at.at c.loop-at.k c.loop-at.path c.loop-at.invariant c.if-at-eq0.true
 
@@ -22,5 +22,5 @@ pub loop-at-preserved : goal.loop-at-preserved
 loop-at-preserved c =
     let ns = c.args.nodes.now in
     let all : List PathNode = nodes_to ns c.args.from ++ replicate (8 - c.args.count) no_path_node in
-    subst (λ x. Climbing ns c.args.from all (parent_of ns c.loop-at.at) (c.loop-at.k - 1) (set c.loop-at.path (c.loop-at.k - 1) x)) (sym c.on-path.ensures)
+    subst (λ x. Climbing ns c.args.from all (parent_of ns c.loop-at.at) (c.loop-at.k - 1) (set c.loop-at.path (c.loop-at.k - 1) x)) (sym c.on_path.ensures)
     (climbing_more ns c.args.from c.requires.within c.requires.rising all c.loop-at.at c.loop-at.k c.loop-at.path c.loop-at.invariant (omega arith))

@@ -1,6 +1,6 @@
 use Rattle.table.proofs.Paths.{counted_leaf, counted_struct, counted_list, counted_all}
 use Rattle.table.proofs.leaf_path.greatest_levels.Goals as goal
-use Rattle.table.proofs.leaf_path.greatest_levels.Goals.{in-Struct, in-default}
+use Rattle.table.proofs.leaf_path.greatest_levels.Goals.{in-Struct, in_default}
 
 pub returns-in-Leaf : goal.returns-in-Leaf
 returns-in-Leaf c =
@@ -14,9 +14,9 @@ loop-node-preserved c =
       | in-Struct w ↦ rw (w.definition-is, w.repetition-is)
           (counted_struct c.args.path.now c.loop-node.node-index c.loop-node.definition c.loop-node.repetition c.loop-node.invariant c.loop-node-test.true
           c.raised-definition.result c.raised-definition.ensures w.in-Struct.is)
-      | in-default w ↦ rw (w.definition-is, w.repetition-is)
+      | in_default w ↦ rw (w.definition-is, w.repetition-is)
           (counted_list c.args.path.now c.loop-node.node-index c.loop-node.definition c.loop-node.repetition c.loop-node.invariant c.loop-node-test.true
-          c.raised-definition.result c.raised-definition.ensures w.in-default.not-Leaf w.in-default.not-Struct)
+          c.raised-definition.result c.raised-definition.ensures w.in_default.not-Leaf w.in_default.not-Struct)
     ]
 
 pub returns : goal.returns

@@ -12,8 +12,8 @@ climb-path-requires c =
     let h = leaf_of c.args.nodes.now c.args.leaf c.requires c.if-leaf-nodes.false c.if-nodes-leaf-ne0.false in
     record { within = h.within; rising = h.rising; count = c.depth-count.ensures; short = (let s = h.short in omega (arith, c.depth-count.ensures)) }
 
-pub greatest-levels-definition-requires : goal.greatest-levels-definition-requires
-greatest-levels-definition-requires c =
+pub greatest_levels-definition-requires : goal.greatest_levels-definition-requires
+greatest_levels-definition-requires c =
     let h = leaf_of c.args.nodes.now c.args.leaf c.requires c.if-leaf-nodes.false c.if-nodes-leaf-ne0.false in
     front_short c.args.nodes.now c.args.leaf h c.depth-count.result c.climb-path.result c.depth-count.ensures c.climb-path.ensures
 
@@ -21,14 +21,14 @@ pub returns : goal.returns
 returns c =
     let h = leaf_of c.args.nodes.now c.args.leaf c.requires c.if-leaf-nodes.false c.if-nodes-leaf-ne0.false in
     led c.args.nodes.now c.args.leaf h c.depth-count.result c.climb-path.result c.depth-count.ensures c.climb-path.ensures
-    c.greatest-levels-definition.result.0 c.greatest-levels-definition.result.1 c.greatest-levels-definition.ensures.definition c.greatest-levels-definition.ensures.repetition
+    c.greatest_levels-definition.result.0 c.greatest_levels-definition.result.1 c.greatest_levels-definition.ensures.definition c.greatest_levels-definition.ensures.repetition
 
-pub slice-bounds-path-end : goal.slice-bounds-path-end
-slice-bounds-path-end c =
+pub slice_bounds-path-end : goal.slice_bounds-path-end
+slice_bounds-path-end c =
     let h = leaf_of c.args.nodes.now c.args.leaf c.requires c.if-leaf-nodes.false c.if-nodes-leaf-ne0.false in
     front_fits c.args.nodes.now c.args.leaf h c.depth-count.result c.climb-path.result c.depth-count.ensures c.climb-path.ensures
 
-pub slice-bounds-greatest-levels-end : goal.slice-bounds-greatest-levels-end
-slice-bounds-greatest-levels-end c =
+pub slice_bounds-greatest_levels-end : goal.slice_bounds-greatest_levels-end
+slice_bounds-greatest_levels-end c =
     let h = leaf_of c.args.nodes.now c.args.leaf c.requires c.if-leaf-nodes.false c.if-nodes-leaf-ne0.false in
     front_length c.args.nodes.now c.args.leaf h c.depth-count.result c.climb-path.result c.depth-count.ensures c.climb-path.ensures
