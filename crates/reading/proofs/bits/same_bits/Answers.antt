@@ -41,7 +41,7 @@ loop-i-preserved-then-bytes-b c = (
   omega arith,
   further (λ k. bit c.args.bytes.now (c.args.start + k) ≡ bit c.args.bytes.now (c.args.start + c.args.from)) c.args.from c.loop-i.i 8 c.loop-i.invariant.2 (λ k lo hi.
       elim c.if-first.branch [
-        | then-first w ↦ in_byte c.args.bytes.now (c.args.start + c.loop-i.i) (c.args.start + k) 255 true ones c.if-b-eq0.true (omega arith) (omega arith) (c.if-bytes-b.true ∙ w.full-is) ∙ sym w.if-first.true ∙ c.bit-at-first.ensures
-        | else-first w ↦ in_byte c.args.bytes.now (c.args.start + c.loop-i.i) (c.args.start + k) 0 false noughts c.if-b-eq0.true (omega arith) (omega arith) (c.if-bytes-b.true ∙ w.full-is) ∙ sym w.if-first.false ∙ c.bit-at-first.ensures
+        | then-first w ↦ in_byte c.args.bytes.now (c.args.start + c.loop-i.i) (c.args.start + k) 255 true ones c.if-b-eq0.true (omega arith) (omega arith) (c.if-bytes-b.true ∙ w.full-is) ∙ sym w.if-first.true ∙ c.bit_at-first.ensures
+        | else-first w ↦ in_byte c.args.bytes.now (c.args.start + c.loop-i.i) (c.args.start + k) 0 false noughts c.if-b-eq0.true (omega arith) (omega arith) (c.if-bytes-b.true ∙ w.full-is) ∙ sym w.if-first.false ∙ c.bit_at-first.ensures
       ]),
 )

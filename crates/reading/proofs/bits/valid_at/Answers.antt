@@ -8,4 +8,4 @@ pub returns-in-Some : goal.returns-in-Some
 returns-in-Some c =
     let bs = c.args.bytes.now in
     let s = c.in-Some.start in
-    c.bit-at.ensures ∙ ap (λ x. bit x (s % 8 + c.args.i)) (take_rest bs (s / 8)) ∙ bit_behind bs s c.args.i ∙ ap (λ v. valid_in bs v c.args.i) (sym c.in-Some.is)
+    c.bit_at.ensures ∙ ap (λ x. bit x (s % 8 + c.args.i)) (take_rest bs (s / 8)) ∙ bit_behind bs s c.args.i ∙ ap (λ v. valid_in bs v c.args.i) (sym c.in-Some.is)

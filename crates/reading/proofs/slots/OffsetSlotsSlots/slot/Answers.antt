@@ -3,8 +3,8 @@ use Rattle.reading.specs.Slots.{Span, listed, viewed, within}
 use Rattle.reading.proofs.Places.{slot_place, slot_there}
 use Rattle.reading.proofs.slots.OffsetSlotsSlots.slot.Goals as goal
 
-pub list-slot-requires : goal.list-slot-requires
-list-slot-requires g c =
+pub list_slot-requires : goal.list_slot-requires
+list_slot-requires g c =
     let h = c.requires.sound in
     let place = slot_place c.args.self.now.validity.now c.args.self.now.node (λ k. listed c.args.self.now.most (map g.T.Offset.value c.args.self.now.offsets.now) (c.args.self.now.node.offsets + k)) c.args.i c.requires.place in
     record { slot = place; small = h.small; bits = h.bits; offsets = h.offsets }
@@ -13,4 +13,4 @@ pub returns : goal.returns
 returns g c =
     let spans : ℕ → Span = (λ k. listed c.args.self.now.most (map g.T.Offset.value c.args.self.now.offsets.now) (c.args.self.now.node.offsets + k)) in
     let place = slot_place c.args.self.now.validity.now c.args.self.now.node spans c.args.i c.requires.place in
-    c.list-slot.ensures ∙ sym (slot_there c.args.self.now.validity.now c.args.self.now.node spans c.args.i place)
+    c.list_slot.ensures ∙ sym (slot_there c.args.self.now.validity.now c.args.self.now.node spans c.args.i place)

@@ -3,8 +3,8 @@ use Rattle.reading.specs.Slots.{Span, listed, viewed, within}
 use Rattle.reading.proofs.Places.{slot_place, slot_there}
 use Rattle.reading.proofs.slots.ViewSlotsSlots.slot.Goals as goal
 
-pub view-slot-requires : goal.view-slot-requires
-view-slot-requires g c =
+pub view_slot-requires : goal.view_slot-requires
+view_slot-requires g c =
     let h = c.requires.sound in
     let place = slot_place c.args.self.now.validity.now c.args.self.now.node (λ k. viewed c.args.self.now.most (map g.T.Offset.value c.args.self.now.offsets.now) (c.args.self.now.node.offsets + k) (c.args.self.now.node.sizes + k)) c.args.i c.requires.place in
     record { slot = place; small = h.small; bits = h.bits; offsets = h.offsets; sizes = h.sizes }
@@ -13,4 +13,4 @@ pub returns : goal.returns
 returns g c =
     let spans : ℕ → Span = (λ k. viewed c.args.self.now.most (map g.T.Offset.value c.args.self.now.offsets.now) (c.args.self.now.node.offsets + k) (c.args.self.now.node.sizes + k)) in
     let place = slot_place c.args.self.now.validity.now c.args.self.now.node spans c.args.i c.requires.place in
-    c.view-slot.ensures ∙ sym (slot_there c.args.self.now.validity.now c.args.self.now.node spans c.args.i place)
+    c.view_slot.ensures ∙ sym (slot_there c.args.self.now.validity.now c.args.self.now.node spans c.args.i place)
