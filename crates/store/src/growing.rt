@@ -140,7 +140,7 @@ impl<'a, T: Blank> GrowingList<'a, T> {
 
     // Keeps the first `kept` elements, and fills the places that it vacates with the blank.
     pub fn cut_back(&mut self, kept: u32) -> Result<(), Refusal>
-        ensures list { Cut blank self.old self.new kept result }
+        ensures list { Cut T.blank self.old self.new kept result }
         ensures lender { self.new.memory.ghost_name ≡ self.old.memory.ghost_name }
     {
         let to = self.used();
