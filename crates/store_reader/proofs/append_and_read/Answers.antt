@@ -6,7 +6,7 @@ use Rattle.store_reader.proofs.append_and_read.Goals as goal
 pub returns : goal.returns
 returns g c =
     let fits : SFits w16 c.args.level = c.ranges.level in
-    let done = simp to_z-of_z at c.in-ok-append.ensures in
+    let done = simp to_z-of_z at c.in_ok-append.ensures in
     record {
       read = read_last (g.S.LevelStore.meaning c.args.store.now).levels _ c.args.level c.length-place.result c.at.result _ done.levels.1 c.length-place.ensures c.at.ensures;
       ordered = done.ordered;

@@ -24,15 +24,15 @@ returns g c =
     let n = c.args.count in
     let st = g.S.LevelStore in
     let one = simp to_z-of_z at c.in-Ok.ensures in
-    let two = c.in-default-append.ensures in
-    let cut = c.cut-back.ensures in
+    let two = c.in_default-append.ensures in
+    let cut = c.cut_back.ensures in
     let xs = (st.meaning c.args.store.now).levels in
     let run = replicate n c.args.first in
     let still : (st.meaning c.append-2.new.self).levels ≡ xs ++ run = ap (λ q. (st.meaning q).levels) two.levels.2 ∙ one.levels.1 in
     let long : length (st.meaning c.append.new.self).levels ≡ length xs + n =
     ap length one.levels.1 ∙ length-append xs run ∙ ap (λ k. length xs + k) (length-replicate n c.args.first) in
     record {
-      both = (cut_to st.meaning _ _ xs run c.length-before.result c.cut-back.result still c.length-before.ensures cut.levels, omega (arith, two.levels.1, one.most));
+      both = (cut_to st.meaning _ _ xs run c.length-before.result c.cut_back.result still c.length-before.ensures cut.levels, omega (arith, two.levels.1, one.most));
       most = cut.most ∙ two.most ∙ one.most;
       ordered = λ o. cut.ordered (two.ordered (one.ordered o));
     }

@@ -19,9 +19,9 @@ loop-i-preserved g c =
     let same : x ≡ y = sym (to_z-of_z w16 x fits) ∙ ap (to_z w16) c.if-level-expected.false ∙ to_z-of_z w16 y fits-y in
     (read.2, take_more_same xs ys i (pos 0) read.0 (omega arith) c.loop-i.invariant.1 (sym (read.1 (pos 0)) ∙ same))
 
-pub returns-in-default : goal.returns-in-default
-returns-in-default g c = λ e.
-    let past = c.in-default.ensures c.loop-i.i c.loop-i.invariant.0 in
+pub returns-in_default : goal.returns-in_default
+returns-in_default g c = λ e.
+    let past = c.in_default.ensures c.loop-i.i c.loop-i.invariant.0 in
     omega (arith, past.0, ap length e)
 
 pub returns : goal.returns

@@ -8,5 +8,5 @@ returns g c =
     let below = c.args.below in
     let held = g.S.LevelStore.bounded below in
     let zero : ℕ = 0 in
-    let counted = counted_new (g.S.LevelStore.meaning below).levels c.length.result (replicate 17 zero) _ c.length.ensures (omega (arith, c.length.ensures)) (λ k h. get_or-replicate 17 k zero zero h) c.add-rest.ensures in
+    let counted = counted_new (g.S.LevelStore.meaning below).levels c.length.result (replicate 17 zero) _ c.length.ensures (omega (arith, c.length.ensures)) (λ k h. get_or-replicate 17 k zero zero h) c.add_rest.ensures in
     record { below = refl; counted = counted; ordered = λ o. (o, counted) }

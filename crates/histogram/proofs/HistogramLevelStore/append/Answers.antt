@@ -8,7 +8,7 @@ returns g c =
     let s = c.args.self.now in
     let held = g.S.LevelStore.bounded s.below in
     let fits : SFits w16 c.args.level = c.ranges.level in
-    let done = simp to_z-of_z at c.in-ok-append.ensures in
+    let done = simp to_z-of_z at c.in_ok-append.ensures in
     let added = simp to_z-of_z at c.add.ensures in
     record {
       levels = done.levels;

@@ -8,10 +8,10 @@ returns g c =
     let s = c.args.self.now in
     let held = g.S.LevelStore.bounded s.below in
     let fits : SFits w16 c.args.level = c.ranges.level in
-    let old = c.in-ok-old.old in
+    let old = c.in_ok-old.old in
     let fits-old : SFits w16 old = search rules in
-    let read = c.in-ok-old.ensures in
-    let done = simp to_z-of_z at c.in-ok-put.ensures in
+    let read = c.in_ok-old.ensures in
+    let done = simp to_z-of_z at c.in_ok-put.ensures in
     let less = simp to_z-of_z at c.subtract.ensures in
     let more = simp to_z-of_z at c.add.ensures in
     record {

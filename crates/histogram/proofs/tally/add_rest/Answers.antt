@@ -23,10 +23,10 @@ loop-place-preserved g c =
           omega (arith, done, c.loop-place.invariant.1 k h, part_more k xs a i x before read.0 (read.1 x)),
     )
 
-pub returns-in-default : goal.returns-in-default
-returns-in-default g c = λ k h.
+pub returns-in_default : goal.returns-in_default
+returns-in_default g c = λ k h.
     let xs = (g.S.LevelStore.meaning c.args.store.now).levels in
-    let past = c.in-default.ensures c.loop-place.place c.loop-place.invariant.0 in
+    let past = c.in_default.ensures c.loop-place.place c.loop-place.invariant.0 in
     omega (arith, c.loop-place.invariant.1 k h, part_past k xs c.args.from c.loop-place.place c.args.to c.loop-place.auto.place (omega arith) past.0)
 
 pub returns : goal.returns

@@ -16,7 +16,7 @@ loop-index-preserved c =
     let items = records c.args.self.now in
     let i = c.loop-index.index - 1 in
     let k : i + 1 ≡ c.loop-index.index = omega arith in
-    let next = back_next items i c.record-at.result (omega (arith, c.loop-index.invariant.0)) c.record-at.ensures in (
+    let next = back_next items i c.record_at.result (omega (arith, c.loop-index.invariant.0)) c.record_at.ensures in (
       omega (arith, c.loop-index.invariant.0),
       omega (arith, c.loop-index.invariant.1, next, c.long-n.ensures, ap (λ j. length (spread (drop j items))) k),
       λ h. omega arith,

@@ -14,10 +14,10 @@ returns-then-held-eq0 c =
     let s = c.args.self.now in
     let xs = spread (records s) in
     let none : run_held s ≡ 0 = omega (arith, c.held-held.ensures) in
-    let less = shortened_if _ s.runs c.cut-back.new.self 0 c.cut-back.result c.cut-back.ensures.list (omega arith) in
+    let less = shortened_if _ s.runs c.cut_back.new.self 0 c.cut_back.result c.cut_back.ensures.list (omega arith) in
     record {
       levels = ap spread less.list ∙ sym (ap (λ k. lastly k xs) none ∙ lastly_none xs);
-      most = most-same s.runs c.cut-back.new.self less.size;
+      most = most-same s.runs c.cut_back.new.self less.size;
       total = refl;
     }
 
@@ -53,7 +53,7 @@ returns c =
     let n = t.offset in
     let i = t.index - 1 in
     let k : t.index ≡ i + 1 = omega arith in
-    let r = c.record-at-level.result in
+    let r = c.record_at-level.result in
     let fits : SFits w16 r.level = search rules in
     let new = run_of r.level n in
     let here = located_here items h t at i k in
@@ -61,10 +61,10 @@ returns c =
     let most : max 1 n ≡ n = omega arith in
     let one = placed_if s.runs c.put.new.self i new c.put.result (simp to_z-of_z at c.put.ensures.list) here in
     record {
-      levels = ap spread (c.drop-front.ensures.records ∙ ap (drop i) one.list ∙ drop-set items i new here)
+      levels = ap spread (c.drop_front.ensures.records ∙ ap (drop i) one.list ∙ drop-set items i new here)
           ∙ ap (λ m. replicate m r.level ++ spread (drop (i + 1) items)) most
-          ∙ ap (λ q. replicate n q.level ++ spread (drop (i + 1) items)) c.record-at-level.ensures
+          ∙ ap (λ q. replicate n q.level ++ spread (drop (i + 1) items)) c.record_at-level.ensures
           ∙ located_last items h t at i k ∙ ap (λ m. lastly m (spread items)) c.held-held.ensures;
-      most = c.drop-front.ensures.most ∙ most-same s.runs c.put.new.self one.size;
-      total = c.drop-front.ensures.total;
+      most = c.drop_front.ensures.most ∙ most-same s.runs c.put.new.self one.size;
+      total = c.drop_front.ensures.total;
     }

@@ -37,7 +37,7 @@ returns-then-before-held c =
     let t = c.put.new.self in
     let items = records s in
     let i = c.length-end.result - 1 in
-    let run = c.record-at-run.result in
+    let run = c.record_at-run.result in
     let level = c.args.level in
     let count = c.args.count in
     let h = c.held-held.result in
@@ -49,7 +49,7 @@ returns-then-before-held c =
     let last : i + 1 ≡ length items = omega (arith, c.length-end.ensures) in
     let here : i < length items = omega arith in
     let one = placed_if s.runs t i new c.put.result (simp to_z-of_z at c.put.ensures.list) here in
-    let read : run ≡ get_or items i run = c.record-at-run.ensures ∙ get_or_default items i no_run run here in
+    let read : run ≡ get_or items i run = c.record_at-run.ensures ∙ get_or_default items i no_run run here in
     let more : spread (list_items t) ≡ spread items ++ replicate count level =
     ap spread one.list ∙ ap (λ l. spread (set items i (run_of l (n + count)))) (sym same) ∙ lengthened items i n count run last read c.long-before.ensures
     ∙ ap (λ l. spread items ++ replicate count l) same in
@@ -69,14 +69,14 @@ returns-then-before-held c =
 pub returns : goal.returns
 returns c =
     let s = c.args.self.now in
-    let a = c.make-room.new.self in
+    let a = c.make_room.new.self in
     let t = c.add.new.self in
     let items = records a in
     let end = c.length-end-2.result in
     let level = c.args.level in
     let count = c.args.count in
     let h = c.held-held.result in
-    let room = c.make-room.ensures in
+    let room = c.make_room.ensures in
     let fits : SFits w16 level = c.ranges.level in
     let past : length items ≤ end = omega (arith, c.length-end-2.ensures) in
     let list : records t ≡ items ++ unless_empty level count =

@@ -20,7 +20,7 @@ returns c =
     let h = c.held-held.result in
     let t = c.find-spot.result in
     let at = c.find-spot.ensures in
-    let x = c.level-before.result in
+    let x = c.level_before.result in
     let u : Spot = record { index = t.index; offset = t.offset - 1 } in
     let some : 0 < t.offset = at.some (omega arith) in
     let inside : place ≤ run_held s = omega (arith, c.held-held.ensures) in
@@ -28,4 +28,4 @@ returns c =
     located_rest items (h - place) t at ∙ ap (λ k. lastly (k - place) xs) c.held-held.ensures ∙ sym (lastly-drop (run_held s) place xs inside) in
     let fits : SFits w16 x = search rules in
     let step = step_within items (run_levels s) (run_held s) place t u (lastly_long (run_held s) xs) (inside, rest) refl (omega arith) in
-    (step.0, λ d. to_z-of_z w16 x fits ∙ c.level-before.ensures ∙ step.1 d)
+    (step.0, λ d. to_z-of_z w16 x fits ∙ c.level_before.ensures ∙ step.1 d)

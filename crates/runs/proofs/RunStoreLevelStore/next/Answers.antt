@@ -10,17 +10,17 @@ pub returns-then-spot-gt0 : goal.returns-then-spot-gt0
 returns-then-spot-gt0 c = λ n st.
     let s = c.args.self.now in
     let t = c.args.spot.now in
-    let x = c.level-before.result in
+    let x = c.level_before.result in
     let u : Spot = record { index = t.index; offset = t.offset - 1 } in
     let fits : SFits w16 x = search rules in
     let step = step_within (records s) (run_levels s) (run_held s) n t u (lastly_long (run_held s) (spread (records s))) st refl (omega arith) in
-    (step.0, λ d. to_z-of_z w16 x fits ∙ c.level-before.ensures ∙ step.1 d, step.2)
+    (step.0, λ d. to_z-of_z w16 x fits ∙ c.level_before.ensures ∙ step.1 d, step.2)
 
-pub returns-in-default : goal.returns-in-default
-returns-in-default c = λ n st.
+pub returns-in_default : goal.returns-in_default
+returns-in_default c = λ n st.
     let s = c.args.self.now in
     let t = c.args.spot.now in
-    (step_none (records s) (run_levels s) (run_held s) n t t (lastly_long (run_held s) (spread (records s))) st (omega arith) c.in-default.ensures.1, refl)
+    (step_none (records s) (run_levels s) (run_held s) n t t (lastly_long (run_held s) (spread (records s))) st (omega arith) c.in_default.ensures.1, refl)
 
 pub returns : goal.returns
 returns c = λ n st.

@@ -15,8 +15,8 @@ returns-then-place-held c =
     let s = c.args.self.now in
     record { levels = (refl, omega (arith, lastly_long (run_held s) (spread (records s)), c.held-held.ensures), refl); most = refl; ordered = λ o. o }
 
-pub overflow-sub-index : goal.overflow-sub-index
-overflow-sub-index c =
+pub overflow_sub-index : goal.overflow_sub-index
+overflow_sub-index c =
     let s = c.args.self.now in
     let t = c.settle.new.self in
     let items = records t in
@@ -29,8 +29,8 @@ overflow-sub-index c =
     let first = located_in items (h - place) spot at (omega arith) (omega arith) in
     omega arith
 
-pub overflow-sub-before : goal.overflow-sub-before
-overflow-sub-before c =
+pub overflow_sub-before : goal.overflow_sub-before
+overflow_sub-before c =
     let s = c.args.self.now in
     let t = c.settle.new.self in
     let items = records t in
@@ -43,7 +43,7 @@ overflow-sub-before c =
     let first = located_in items (h - place) spot at (omega arith) (omega arith) in
     let i = spot.index - 1 in
     let k : spot.index ≡ i + 1 = omega arith in
-    omega (arith, at.inside i k, ap run_long c.record-at-run.ensures, c.long.ensures)
+    omega (arith, at.inside i k, ap run_long c.record_at-run.ensures, c.long.ensures)
 
 pub add-requires : goal.add-requires
 add-requires c =
@@ -60,9 +60,9 @@ add-requires c =
     let i = spot.index - 1 in
     let k : spot.index ≡ i + 1 = omega arith in
     let here = located_here items (h - place) spot at i k in
-    let run = c.record-at-run.result in
-    let read : run ≡ get_or items i run = c.record-at-run.ensures ∙ get_or_default items i no_run run here in
-    let inside : spot.offset ≤ run_long run = omega (arith, at.inside i k, ap run_long c.record-at-run.ensures) in
+    let run = c.record_at-run.result in
+    let read : run ≡ get_or items i run = c.record_at-run.ensures ∙ get_or_default items i no_run run here in
+    let inside : spot.offset ≤ run_long run = omega (arith, at.inside i k, ap run_long c.record_at-run.ensures) in
     let some : 0 < spot.offset = at.some (omega arith) in
     let fits : SFits w16 c.args.level = c.ranges.level in
     let new = run_of c.args.level 1 in
@@ -89,9 +89,9 @@ add-requires-2 c =
     let i = spot.index - 1 in
     let k : spot.index ≡ i + 1 = omega arith in
     let here = located_here items (h - place) spot at i k in
-    let run = c.record-at-run.result in
-    let read : run ≡ get_or items i run = c.record-at-run.ensures ∙ get_or_default items i no_run run here in
-    let inside : spot.offset ≤ run_long run = omega (arith, at.inside i k, ap run_long c.record-at-run.ensures) in
+    let run = c.record_at-run.result in
+    let read : run ≡ get_or items i run = c.record_at-run.ensures ∙ get_or_default items i no_run run here in
+    let inside : spot.offset ≤ run_long run = omega (arith, at.inside i k, ap run_long c.record_at-run.ensures) in
     let some : 0 < spot.offset = at.some (omega arith) in
     let fits : SFits w16 c.args.level = c.ranges.level in
     let new = run_of c.args.level 1 in
@@ -107,7 +107,7 @@ add-requires-2 c =
     let fits-old : SFits w16 old = search rules in
     let v = c.add.new.self in
     let second = c.add.ensures.records ∙ ap (λ q. take (i + 1) (list_items u) ++ (unless_empty q rest ++ drop (i + 1) (list_items u))) (to_z-of_z w16 old fits-old) in
-    let same : off ≡ run_long (get_or items i no_run) - spot.offset = ap (λ j. j - spot.offset) (c.long.ensures ∙ ap run_long c.record-at-run.ensures) in
+    let same : off ≡ run_long (get_or items i no_run) - spot.offset = ap (λ j. j - spot.offset) (c.long.ensures ∙ ap run_long c.record_at-run.ensures) in
     let before : place ≡ length (spread (take i items)) + off =
     omega (
       arith,
@@ -136,9 +136,9 @@ returns c =
     let i = spot.index - 1 in
     let k : spot.index ≡ i + 1 = omega arith in
     let here = located_here items (h - place) spot at i k in
-    let run = c.record-at-run.result in
-    let read : run ≡ get_or items i run = c.record-at-run.ensures ∙ get_or_default items i no_run run here in
-    let inside : spot.offset ≤ run_long run = omega (arith, at.inside i k, ap run_long c.record-at-run.ensures) in
+    let run = c.record_at-run.result in
+    let read : run ≡ get_or items i run = c.record_at-run.ensures ∙ get_or_default items i no_run run here in
+    let inside : spot.offset ≤ run_long run = omega (arith, at.inside i k, ap run_long c.record_at-run.ensures) in
     let some : 0 < spot.offset = at.some (omega arith) in
     let fits : SFits w16 c.args.level = c.ranges.level in
     let new = run_of c.args.level 1 in
@@ -154,7 +154,7 @@ returns c =
     let fits-old : SFits w16 old = search rules in
     let v = c.add.new.self in
     let second = c.add.ensures.records ∙ ap (λ q. take (i + 1) (list_items u) ++ (unless_empty q rest ++ drop (i + 1) (list_items u))) (to_z-of_z w16 old fits-old) in
-    let same : off ≡ run_long (get_or items i no_run) - spot.offset = ap (λ j. j - spot.offset) (c.long.ensures ∙ ap run_long c.record-at-run.ensures) in
+    let same : off ≡ run_long (get_or items i no_run) - spot.offset = ap (λ j. j - spot.offset) (c.long.ensures ∙ ap run_long c.record_at-run.ensures) in
     let before : place ≡ length (spread (take i items)) + off =
     omega (
       arith,
