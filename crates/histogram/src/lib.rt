@@ -21,8 +21,8 @@ impl<S: LevelStore> Histogram<S> {
     // Counts what `below` holds.
     pub fn new(below: S) -> Histogram<S>
         ensures below { result.below ≡ below }
-        ensures counted { Counted (meaning below).levels result.counts }
-        ensures ordered { in_order below → HistogramOrdered meaning in_order result }
+        ensures counted { Counted (S.meaning below).levels result.counts }
+        ensures ordered { S.in_order below → HistogramOrdered S.meaning S.in_order result }
     {
         let mut counts = [0; 17];
         add_rest(&mut counts, &below, below.start(), 0, below.length());
@@ -32,20 +32,20 @@ impl<S: LevelStore> Histogram<S> {
     // How often each of the levels 0 to 15 comes, and how often any other.
     pub fn counts(&self) -> [u32; 17]
         ensures kept { result ≡ self.now.counts }
-        ensures counted { HistogramOrdered meaning in_order self.now → Counted (meaning self.now.below).levels result }
+        ensures counted { HistogramOrdered S.meaning S.in_order self.now → Counted (S.meaning self.now.below).levels result }
     {
         self.counts
     }
 }
 
 impl<S: LevelStore> LevelStore for Histogram<S> {
-    ghost meaning = { λ h. S.LevelStore.meaning h.below };
+    ghost meaning = { λ h. S.meaning h.below };
 
-    ghost in_order = { HistogramOrdered S.LevelStore.meaning S.LevelStore.in_order };
+    ghost in_order = { HistogramOrdered S.meaning S.in_order };
 
-    ghost stands = { λ h. S.LevelStore.stands h.below };
+    ghost stands = { λ h. S.stands h.below };
 
-    ghost bounded = { λ h. S.LevelStore.bounded h.below };
+    ghost bounded = { λ h. S.bounded h.below };
 
     fn length(&self) -> u32 {
         self.below.length()

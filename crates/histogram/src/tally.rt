@@ -38,9 +38,9 @@ pub(crate) fn add_rest<S: LevelStore>(
     from: u32,
     to: u32,
 )
-    requires at { stands store.now spot from }
+    requires at { S.stands store.now spot from }
     requires ordered { from ≤ to }
-    ensures { (k : ℕ) → k < 17 → slice_index counts.new k ≡ min (slice_index counts.old k + occurrences k (part (meaning store.now).levels from to)) 4294967295 }
+    ensures { (k : ℕ) → k < 17 → slice_index counts.new k ≡ min (slice_index counts.old k + occurrences k (part (S.meaning store.now).levels from to)) 4294967295 }
 {
     for place in from..to {
         let Some(level) = store.next(&mut spot) else {
@@ -58,9 +58,9 @@ pub(crate) fn subtract_rest<S: LevelStore>(
     from: u32,
     to: u32,
 )
-    requires at { stands store.now spot from }
+    requires at { S.stands store.now spot from }
     requires ordered { from ≤ to }
-    ensures { (k : ℕ) → k < 17 → slice_index counts.new k ≡ slice_index counts.old k - occurrences k (part (meaning store.now).levels from to) }
+    ensures { (k : ℕ) → k < 17 → slice_index counts.new k ≡ slice_index counts.old k - occurrences k (part (S.meaning store.now).levels from to) }
 {
     for place in from..to {
         let Some(level) = store.next(&mut spot) else {

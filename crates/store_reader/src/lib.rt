@@ -9,8 +9,8 @@ use store::stores::LevelStore;
 
 // Appends one level, and reads it back.
 pub fn append_and_read<S: LevelStore>(store: &mut S, level: i16) -> Result<i16, Refusal>
-    ensures read { MatchResult result (λ x. (x ≡ level) × ((meaning store.new).levels ≡ (meaning store.old).levels ++ (level ∷ []))) (λ e. (e ≡ NoRoom) × (store.new ≡ store.old)) }
-    ensures ordered { in_order store.old → in_order store.new }
+    ensures read { MatchResult result (λ x. (x ≡ level) × ((S.meaning store.new).levels ≡ (S.meaning store.old).levels ++ (level ∷ []))) (λ e. (e ≡ NoRoom) × (store.new ≡ store.old)) }
+    ensures ordered { S.in_order store.old → S.in_order store.new }
 {
     let place = store.length();
     store.append(level, 1)?;
@@ -19,9 +19,9 @@ pub fn append_and_read<S: LevelStore>(store: &mut S, level: i16) -> Result<i16, 
 
 // Appends two runs of `count` levels, or neither.
 pub fn append_both<S: LevelStore>(store: &mut S, first: i16, second: i16, count: u32) -> bool
-    ensures both { MatchBool result ((meaning store.new).levels ≡ (meaning store.old).levels ++ (replicate count first ++ replicate count second)) (((meaning store.new).levels ≡ (meaning store.old).levels) × ((meaning store.old).most < length (meaning store.old).levels + 2 * count)) }
-    ensures most { (meaning store.new).most ≡ (meaning store.old).most }
-    ensures ordered { in_order store.old → in_order store.new }
+    ensures both { MatchBool result ((S.meaning store.new).levels ≡ (S.meaning store.old).levels ++ (replicate count first ++ replicate count second)) (((S.meaning store.new).levels ≡ (S.meaning store.old).levels) × ((S.meaning store.old).most < length (S.meaning store.old).levels + 2 * count)) }
+    ensures most { (S.meaning store.new).most ≡ (S.meaning store.old).most }
+    ensures ordered { S.in_order store.old → S.in_order store.new }
 {
     let before = store.length();
     let Ok(()) = store.append(first, count) else {
@@ -36,7 +36,7 @@ pub fn append_both<S: LevelStore>(store: &mut S, first: i16, second: i16, count:
 
 // Whether the store holds just the levels of `expected`: one reading in order.
 pub fn holds<S: LevelStore>(store: &S, expected: &[i16]) -> bool
-    ensures { MatchBool result ((meaning store.now).levels ≡ expected.now) ((meaning store.now).levels ≢ expected.now) }
+    ensures { MatchBool result ((S.meaning store.now).levels ≡ expected.now) ((S.meaning store.now).levels ≢ expected.now) }
 {
     if store.length() as usize != expected.len() {
         return false;
