@@ -6,11 +6,11 @@ use Rattle.tally.proofs.Validity.{differs, all_same, same_run}
 use Rattle.tally.proofs.bits.stretch.Goals as goal
 use Rattle.tally.proofs.bits.stretch.Goals.{then-first, else-first}
 
-pub overflow-sub-other : goal.overflow-sub-other
-overflow-sub-other c =
+pub overflow_sub-other : goal.overflow_sub-other
+overflow_sub-other c =
     let h = packed_lt (valid_in c.args.bytes.now c.args.start) c.together-count.result c.loop-i.i in
-    let e = c.validity-bits-valid.ensures in
-    omega (arith, h, e, c.ones-below.ensures)
+    let e = c.validity_bits-valid.ensures in
+    omega (arith, h, e, c.ones_below.ensures)
 
 digits_true : (f : ℕ → Bool) (count i valid ones other : ℕ) → valid ≡ packed f count i → ones ≡ 2 ^ count - 1 → other ≡ ones - valid → other ≡ packed (differs true f) count i
 digits_true f count i valid ones other p q r = r ∙ ap₂ (λ x y. x - y) q p ∙ packed_not f count i
@@ -21,10 +21,10 @@ returns-then-other-gt0 c =
     let f : ℕ → Bool = valid_in bs c.args.start in
     let count = c.together-count.result in
     let i = c.loop-i.i in
-    let v = c.validity-bits-valid.ensures in
+    let v = c.validity_bits-valid.ensures in
     let m : i < c.args.end = c.loop-i-test.true in
     elim c.if-first.branch [
-      | then-first w ↦ same_run bs c.args.start c.args.from i c.args.end count c.if-first.other true w.if-first.ensures (digits_true f count i c.validity-bits-valid.result w.ones-below.result c.if-first.other v w.ones-below.ensures w.other-is) c.together-count.ensures.few (omega (arith, c.together-count.ensures.inside)) c.loop-i.invariant.0 c.loop-i.invariant.2 c.if-other-gt0.true
+      | then-first w ↦ same_run bs c.args.start c.args.from i c.args.end count c.if-first.other true w.if-first.ensures (digits_true f count i c.validity_bits-valid.result w.ones_below.result c.if-first.other v w.ones_below.ensures w.other-is) c.together-count.ensures.few (omega (arith, c.together-count.ensures.inside)) c.loop-i.invariant.0 c.loop-i.invariant.2 c.if-other-gt0.true
       | else-first w ↦ same_run bs c.args.start c.args.from i c.args.end count c.if-first.other false w.if-first.ensures (w.other-is ∙ v) c.together-count.ensures.few (omega (arith, c.together-count.ensures.inside)) c.loop-i.invariant.0 c.loop-i.invariant.2 c.if-other-gt0.true
     ]
 
@@ -34,13 +34,13 @@ loop-i-preserved c =
     let f : ℕ → Bool = valid_in bs c.args.start in
     let count = c.together-count.result in
     let i = c.loop-i.i in
-    let v = c.validity-bits-valid.ensures in
+    let v = c.validity_bits-valid.ensures in
     let m : i < c.args.end = c.loop-i-test.true in
     let z : c.if-first.other ≡ 0 = omega (arith, c.if-other-gt0.false) in (
       omega (arith, c.loop-i.invariant.0),
       omega (arith, c.together-count.ensures.inside),
       elim c.if-first.branch [
-        | then-first w ↦ all_same bs c.args.start c.args.from i c.args.end count c.if-first.other true w.if-first.ensures (digits_true f count i c.validity-bits-valid.result w.ones-below.result c.if-first.other v w.ones-below.ensures w.other-is) c.together-count.ensures.few (omega (arith, c.together-count.ensures.inside)) c.loop-i.invariant.0 c.loop-i.invariant.2 z
+        | then-first w ↦ all_same bs c.args.start c.args.from i c.args.end count c.if-first.other true w.if-first.ensures (digits_true f count i c.validity_bits-valid.result w.ones_below.result c.if-first.other v w.ones_below.ensures w.other-is) c.together-count.ensures.few (omega (arith, c.together-count.ensures.inside)) c.loop-i.invariant.0 c.loop-i.invariant.2 z
         | else-first w ↦ all_same bs c.args.start c.args.from i c.args.end count c.if-first.other false w.if-first.ensures (w.other-is ∙ v) c.together-count.ensures.few (omega (arith, c.together-count.ensures.inside)) c.loop-i.invariant.0 c.loop-i.invariant.2 z
       ],
     )

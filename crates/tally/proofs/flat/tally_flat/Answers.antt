@@ -13,11 +13,11 @@ holding c = c.in-Some.ensures (λ _. true) (sym (packed_all (λ _. true) c.toget
 few : (c : goal.In-Some) → ones c.in-Some.held ≤ c.together-count.result
 few c = held-few (inside c.args.b) (along c.args.b) c.args.k c.loop-i.i c.together-count.result c.in-Some.held (holding c)
 
-pub overflow-cast-values : goal.overflow-cast-values
-overflow-cast-values c = omega (arith, few c, c.together-count.ensures.few)
+pub overflow_cast-values : goal.overflow_cast-values
+overflow_cast-values c = omega (arith, few c, c.together-count.ensures.few)
 
-pub overflow-add-values : goal.overflow-add-values
-overflow-add-values c = omega (arith, few c, c.together-count.ensures.few, c.together-count.ensures.inside, c.loop-i.invariant.3, c.requires.slots, c.requires.sound.small c.args.k c.requires.node)
+pub overflow_add-values : goal.overflow_add-values
+overflow_add-values c = omega (arith, few c, c.together-count.ensures.few, c.together-count.ensures.inside, c.loop-i.invariant.3, c.requires.slots, c.requires.sound.small c.args.k c.requires.node)
 
 pub loop-i-preserved : goal.loop-i-preserved
 loop-i-preserved c =

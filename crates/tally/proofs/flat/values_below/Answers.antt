@@ -15,9 +15,9 @@ pub returns-in-Leaf : goal.returns-in-Leaf
 returns-in-Leaf c =
     let ns = along c.args.b in
     let at = c.loop-n.at in
-    c.loop-n.invariant.2 (Some (bit_and c.loop-n.live c.validity-bits.result)) (λ test is.
-    leaf_holding (inside c.args.b) ns at c.args.i c.args.count c.loop-n.live c.validity-bits.result c.loop-n.invariant.0 test is c.validity-bits.ensures
-    (either (node_on ns at).nullable (bit_and c.loop-n.live c.validity-bits.result ≡ c.loop-n.live) c.else-not-n.either) c.in-Leaf.is)
+    c.loop-n.invariant.2 (Some (bit_and c.loop-n.live c.validity_bits.result)) (λ test is.
+    leaf_holding (inside c.args.b) ns at c.args.i c.args.count c.loop-n.live c.validity_bits.result c.loop-n.invariant.0 test is c.validity_bits.ensures
+    (either (node_on ns at).nullable (bit_and c.loop-n.live c.validity_bits.result ≡ c.loop-n.live) c.else-not-n.either) c.in-Leaf.is)
 
 pub loop-n-preserved : goal.loop-n-preserved
 loop-n-preserved c =
@@ -26,6 +26,6 @@ loop-n-preserved c =
     let child : (at + 1 < length ns) × ((node_on ns at).slots ≤ (node_on ns (at + 1)).slots) = subst (ChildOf ns at (node_on ns at).slots) c.in-Struct.is (c.requires.sound.child at c.loop-n.invariant.0) in (
       child.0,
       omega (arith, child.1, c.loop-n.invariant.1),
-      λ r h. c.loop-n.invariant.2 r (struct_held (inside c.args.b) ns at c.args.i c.args.count c.loop-n.live c.validity-bits.result c.loop-n.invariant.0 c.validity-bits.ensures
-          (either (node_on ns at).nullable (bit_and c.loop-n.live c.validity-bits.result ≡ c.loop-n.live) c.else-not-n.either) c.in-Struct.is r h),
+      λ r h. c.loop-n.invariant.2 r (struct_held (inside c.args.b) ns at c.args.i c.args.count c.loop-n.live c.validity_bits.result c.loop-n.invariant.0 c.validity_bits.ensures
+          (either (node_on ns at).nullable (bit_and c.loop-n.live c.validity_bits.result ≡ c.loop-n.live) c.else-not-n.either) c.in-Struct.is r h),
     )

@@ -16,20 +16,20 @@ loop-i-preserved c =
     let lt : k < length ns = omega (arith, c.requires.node) in
     let low : from ≤ i = c.loop-i.auto.i in
     let inv = c.loop-i.invariant in
-    elim c.match-slot-of.branch [
+    elim c.match-slot_of.branch [
       | in-Null+then-n w ↦ (
         omega (arith, w.first-is, w.last-is, inv.0),
         omega (arith, w.last-is, inv.1),
         omega (arith, w.bare-is, inv.2),
         λ h. omega arith,
-        restated b ns k (sizes b ns k from (i + 1 - from)) (c.loop-i.bare + 1) c.loop-i.first c.loop-i.last c.match-slot-of.bare c.match-slot-of.first c.match-slot-of.last w.bare-is w.first-is w.last-is (null_more b ns k from i c.loop-i.first c.loop-i.last c.loop-i.bare lt c.requires.node c.requires.list low inv.0 inv.4 w.if-n.true w.in-Null.ensures),
+        restated b ns k (sizes b ns k from (i + 1 - from)) (c.loop-i.bare + 1) c.loop-i.first c.loop-i.last c.match-slot_of.bare c.match-slot_of.first c.match-slot_of.last w.bare-is w.first-is w.last-is (null_more b ns k from i c.loop-i.first c.loop-i.last c.loop-i.bare lt c.requires.node c.requires.list low inv.0 inv.4 w.if-n.true w.in-Null.ensures),
       )
       | in-Empty w ↦ (
         omega (arith, w.first-is, w.last-is, inv.0),
         omega (arith, w.last-is, inv.1),
         omega (arith, w.bare-is, inv.2),
         λ h. omega arith,
-        restated b ns k (sizes b ns k from (i + 1 - from)) (c.loop-i.bare + 1) c.loop-i.first c.loop-i.last c.match-slot-of.bare c.match-slot-of.first c.match-slot-of.last w.bare-is w.first-is w.last-is (empty_more b ns k from i c.loop-i.first c.loop-i.last c.loop-i.bare lt c.requires.node c.requires.list low inv.0 inv.4 w.in-Empty.ensures),
+        restated b ns k (sizes b ns k from (i + 1 - from)) (c.loop-i.bare + 1) c.loop-i.first c.loop-i.last c.match-slot_of.bare c.match-slot_of.first c.match-slot_of.last w.bare-is w.first-is w.last-is (empty_more b ns k from i c.loop-i.first c.loop-i.last c.loop-i.bare lt c.requires.node c.requires.list low inv.0 inv.4 w.in-Empty.ensures),
       )
       | in-Spanned+then-first-last w ↦
           let f = stop_fits b ns k from i c.loop-i.first c.loop-i.last c.loop-i.bare lt c.requires.node c.requires.list low inv.0 inv.4 w.in-Spanned.start w.in-Spanned.stop w.in-Spanned.ensures in (
@@ -37,7 +37,7 @@ loop-i-preserved c =
             omega (arith, w.last-is, f.1),
             omega (arith, w.bare-is, inv.2),
             λ h. omega arith,
-            restated b ns k (sizes b ns k from (i + 1 - from)) c.loop-i.bare w.in-Spanned.start w.in-Spanned.stop c.match-slot-of.bare c.match-slot-of.first c.match-slot-of.last w.bare-is w.first-is w.last-is (first_more b ns k from i c.loop-i.first c.loop-i.last c.loop-i.bare lt c.requires.node c.requires.list low inv.0 inv.4 w.in-Spanned.start w.in-Spanned.stop w.in-Spanned.ensures w.if-first-last.true),
+            restated b ns k (sizes b ns k from (i + 1 - from)) c.loop-i.bare w.in-Spanned.start w.in-Spanned.stop c.match-slot_of.bare c.match-slot_of.first c.match-slot_of.last w.bare-is w.first-is w.last-is (first_more b ns k from i c.loop-i.first c.loop-i.last c.loop-i.bare lt c.requires.node c.requires.list low inv.0 inv.4 w.in-Spanned.start w.in-Spanned.stop w.in-Spanned.ensures w.if-first-last.true),
           )
       | in-Spanned+else-first-last+else-start-last w ↦
           let f = stop_fits b ns k from i c.loop-i.first c.loop-i.last c.loop-i.bare lt c.requires.node c.requires.list low inv.0 inv.4 w.in-Spanned.start w.in-Spanned.stop w.in-Spanned.ensures in (
@@ -45,6 +45,6 @@ loop-i-preserved c =
             omega (arith, w.last-is, f.1),
             omega (arith, w.bare-is, inv.2),
             λ h. omega arith,
-            restated b ns k (sizes b ns k from (i + 1 - from)) c.loop-i.bare c.loop-i.first w.in-Spanned.stop c.match-slot-of.bare c.match-slot-of.first c.match-slot-of.last w.bare-is w.first-is w.last-is (next_more b ns k from i c.loop-i.first c.loop-i.last c.loop-i.bare lt c.requires.node c.requires.list low inv.0 inv.4 w.in-Spanned.start w.in-Spanned.stop w.in-Spanned.ensures w.if-start-last.false),
+            restated b ns k (sizes b ns k from (i + 1 - from)) c.loop-i.bare c.loop-i.first w.in-Spanned.stop c.match-slot_of.bare c.match-slot_of.first c.match-slot_of.last w.bare-is w.first-is w.last-is (next_more b ns k from i c.loop-i.first c.loop-i.last c.loop-i.bare lt c.requires.node c.requires.list low inv.0 inv.4 w.in-Spanned.start w.in-Spanned.stop w.in-Spanned.ensures w.if-start-last.false),
           )
     ]

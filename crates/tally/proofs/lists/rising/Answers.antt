@@ -57,15 +57,15 @@ first_is x e m =
     let p : mag (pos (nat_abs x)) < 9223372036854775808 = subst (λ z. mag z < 9223372036854775808) e m in
     subst (λ z. T (non_neg z) × Fits w64 (nat_abs z)) (sym e) (tt, omega arith)
 
-pub overflow-cast-result : goal.overflow-cast-result
-overflow-cast-result g c =
+pub overflow_cast-result : goal.overflow_cast-result
+overflow_cast-result g c =
     let os : List ℤ = map g.T.Offset.value c.args.offsets.now in
     let at = c.args.at in
     let fits : SFits w64 c.widened-first.result = search rules in
     let value : c.widened-first.result ≡ get_or os at (pos 0) = c.widened-first.ensures ∙ value_at g.T.Offset.value c.args.offsets.now at c.index-offsets-at.result (omega (arith, c.requires)) c.index-offsets-at.is in
     let whole : get_or os at (pos 0) ≡ pos (nat_abs (get_or os at (pos 0))) = (c.loop-j.invariant.2 c.if-rises.true).0.whole at (omega arith) (omega arith) in
     subst (λ z. T (non_neg z) × Fits w64 (nat_abs z)) (sym (to_z-of_z w64 c.widened-first.result fits))
-    (first_is c.widened-first.result (subst (λ z. z ≡ pos (nat_abs z)) (sym value) whole) c.widened-first.type-inv)
+    (first_is c.widened-first.result (subst (λ z. z ≡ pos (nat_abs z)) (sym value) whole) c.widened-first.type_inv)
 
 pub returns-then-last-most : goal.returns-then-last-most
 returns-then-last-most g c =

@@ -5,8 +5,8 @@ use Rattle.reading.specs.Reading.{node_on}
 use Rattle.tally.proofs.Ranges.{structs, narrow_lists, wide_lists, sized}
 use Rattle.tally.proofs.lists.valid_reach.Goals as goal
 
-pub same-sized-requires : goal.same-sized-requires
-same-sized-requires c =
+pub same_sized-requires : goal.same_sized-requires
+same_sized-requires c =
     let n = node_on (along c.args.b) c.args.k in
     let s : n.slots * n.size < 2 ^ 64 = subst (SpansIn (inside c.args.b) n) c.in-FixedSizeList.is (c.requires.sound.inside c.args.k c.requires.node).1 in
     let m : (c.args.from + c.args.c) * n.size ≤ n.slots * n.size = mul-le-mul_right n.size c.requires.slots in
@@ -22,4 +22,4 @@ pub returns-in-LargeList : goal.returns-in-LargeList
 returns-in-LargeList c = wide_lists (inside c.args.b) (along c.args.b) c.requires.sound c.args.k c.args.from c.requires.node c.args.c c.requires.some c.requires.slots c.requires.valid c.in-LargeList.is c.rising-in-LargeList.result c.rising-in-LargeList.ensures
 
 pub returns-in-FixedSizeList : goal.returns-in-FixedSizeList
-returns-in-FixedSizeList c = sized (inside c.args.b) (along c.args.b) c.requires.sound c.args.k c.args.from c.requires.node c.args.c c.requires.some c.requires.slots c.requires.valid c.in-FixedSizeList.is c.same-sized.result c.same-sized.ensures
+returns-in-FixedSizeList c = sized (inside c.args.b) (along c.args.b) c.requires.sound c.args.k c.args.from c.requires.node c.args.c c.requires.some c.requires.slots c.requires.valid c.in-FixedSizeList.is c.same_sized.result c.same_sized.ensures

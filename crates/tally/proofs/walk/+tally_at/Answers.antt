@@ -8,7 +8,7 @@ use Rattle.tally.specs.Answer.{SizedAs, SumOf}
 use Rattle.tally.specs.Reaching.{Reaches}
 use Rattle.tally.proofs.Adding.{size_on}
 use Rattle.tally.proofs.walk.+tally_at.Goals as goal
-use Rattle.tally.proofs.walk.+tally_at.Goals.{then-x, else-x+then-flat-below+in-ok-below, else-x+else-flat-below+in-ok-below-2}
+use Rattle.tally.proofs.walk.+tally_at.Goals.{then-x, else-x+then-flat_below+in_ok-below, else-x+else-flat_below+in_ok-below-2}
 
 -- what lies below the slots of one reach
 abbrev Below : Buffers → List PathNode → ℕ → Reach → Tally → Type 0
@@ -28,15 +28,15 @@ on b ns k from i end had low e x r below all h s =
     ∙ ap₂ (λ y z. y plus z) e (r.size ∙ ap (λ y. Some (x.bare, 0) plus y) h.0)
     ∙ ap₂ (λ y z. Some (y, z)) p q
 
-pub with-more-requires : goal.with-more-requires
-with-more-requires t c =
+pub with_more-requires : goal.with_more-requires
+with_more-requires t c =
     let b = inside c.args.b in
     let ns = along c.args.b in
-    let x : Reach = c.in-ok-x.x in
+    let x : Reach = c.in_ok-x.x in
     let h : Below b ns c.args.k x c.if-x.below = elim c.if-x.branch [
       | then-x w ↦ none b ns c.args.k x c.if-x.below w.if-x.true w.below-is
-      | else-x+then-flat-below+in-ok-below w ↦ subst (Below b ns c.args.k x) (sym w.below-is) w.in-ok-below.ensures
-      | else-x+else-flat-below+in-ok-below-2 w ↦ subst (Below b ns c.args.k x) (sym w.below-is) w.in-ok-below-2.ensures
+      | else-x+then-flat_below+in_ok-below w ↦ subst (Below b ns c.args.k x) (sym w.below-is) w.in_ok-below.ensures
+      | else-x+else-flat_below+in_ok-below-2 w ↦ subst (Below b ns c.args.k x) (sym w.below-is) w.in_ok-below-2.ensures
     ] in
     record { few = c.loop-i.invariant.3; had = c.loop-i.invariant.4; below = h.2 }
 
@@ -45,17 +45,17 @@ loop-i-preserved t c =
     let b = inside c.args.b in
     let ns = along c.args.b in
     let inv = c.loop-i.invariant in
-    let x : Reach = c.in-ok-x.x in
-    let r : Reaches b ns c.args.k c.loop-i.i c.args.to x = c.in-ok-x.ensures in
+    let x : Reach = c.in_ok-x.x in
+    let r : Reaches b ns c.args.k c.loop-i.i c.args.to x = c.in_ok-x.ensures in
     let h : Below b ns c.args.k x c.if-x.below = elim c.if-x.branch [
       | then-x w ↦ none b ns c.args.k x c.if-x.below w.if-x.true w.below-is
-      | else-x+then-flat-below+in-ok-below w ↦ subst (Below b ns c.args.k x) (sym w.below-is) w.in-ok-below.ensures
-      | else-x+else-flat-below+in-ok-below-2 w ↦ subst (Below b ns c.args.k x) (sym w.below-is) w.in-ok-below-2.ensures
+      | else-x+then-flat_below+in_ok-below w ↦ subst (Below b ns c.args.k x) (sym w.below-is) w.in_ok-below.ensures
+      | else-x+else-flat_below+in_ok-below-2 w ↦ subst (Below b ns c.args.k x) (sym w.below-is) w.in_ok-below-2.ensures
     ] in
-    let s : SumOf c.loop-i.all x.bare c.if-x.below c.in-ok-all.all = c.in-ok-all.ensures in (
+    let s : SumOf c.loop-i.all x.bare c.if-x.below c.in_ok-all.all = c.in_ok-all.ensures in (
       omega (arith, inv.0),
       r.inside,
-      on b ns c.args.k c.args.from c.loop-i.i c.args.to c.loop-i.all inv.0 inv.2 x r c.if-x.below c.in-ok-all.all h s,
+      on b ns c.args.k c.args.from c.loop-i.i c.args.to c.loop-i.all inv.0 inv.2 x r c.if-x.below c.in_ok-all.all h s,
       s.few,
       omega (arith, s.entries, s.values, inv.4, h.2),
     )

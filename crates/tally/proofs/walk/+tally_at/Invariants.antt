@@ -3,8 +3,8 @@ use Rattle.reading.specs.Slots.{inside, along}
 use Rattle.tally.specs.Sizes.{sizes}
 use Rattle.tally.proofs.walk.+tally_at.Given as goal
 
-abbrev pub decreases-tally-at : goal.decreases-tally-at
-decreases-tally-at l = length (along l.b) - l.k
+abbrev pub decreases-tally_at : goal.decreases-tally_at
+decreases-tally_at l = length (along l.b) - l.k
 
 abbrev pub invariant-loop-i : goal.invariant-loop-i
 invariant-loop-i l =

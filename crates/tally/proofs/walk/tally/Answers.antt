@@ -4,4 +4,4 @@ use Rattle.tally.proofs.Traces.{tallied}
 use Rattle.tally.proofs.walk.tally.Goals as goal
 
 pub returns : goal.returns
-returns c = tallied (inside c.args.b) (along c.args.b) c.args.from (c.args.to - c.args.from) c.tally-at.result c.tally-at.ensures
+returns c = tallied (inside c.args.b) (along c.args.b) c.args.from (c.args.to - c.args.from) c.tally_at.result c.tally_at.ensures
