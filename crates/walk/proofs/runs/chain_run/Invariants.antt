@@ -11,7 +11,7 @@ invariant-down l =
     × (l.end ≤ l.x.end)
     × (l.end ≤ (node_on (along l.b) l.node).slots)
     × (l.def ≤ 2 * l.node)
-    × ((row j : ℕ) → l.x.next ≤ j → j < l.end → visit_trace (inside l.b) (along l.b) row l.own_val (visit_of l.own_val l.x j) ≡ visit_trace (inside l.b) (along l.b) row l.own_val (record { node = l.node; slot = j; rep = l.own_val; def = l.def }))
+    × ((row j : ℕ) → l.x.next ≤ j → j < l.end → visit_trace (inside l.b) (along l.b) row l.own (visit_of l.own l.x j) ≡ visit_trace (inside l.b) (along l.b) row l.own (record { node = l.node; slot = j; rep = l.own; def = l.def }))
 
 abbrev pub decreases-down : goal.decreases-down
 decreases-down l = length (along l.b) - l.node

@@ -14,7 +14,7 @@ returns-then-n c =
     let ns = along c.args.b in
     let v = c.args.v in
     let n = node_on ns v.node in
-    record { means = at_null b ns c.args.row c.args.own_val v c.requires.visit.node c.if-n.true (sym c.if-not-valid-at.ensures); within = omega arith }
+    record { means = at_null b ns c.args.row c.args.own v c.requires.visit.node c.if-n.true (sym c.if-not-valid_at.ensures); within = omega arith }
 
 pub returns-else-n : goal.returns-else-n
 returns-else-n c =
@@ -22,7 +22,7 @@ returns-else-n c =
     let ns = along c.args.b in
     let v = c.args.v in
     let n = node_on ns v.node in
-    record { means = at_stop b ns c.args.row c.args.own_val v c.requires.visit.node c.if-n.false (sym c.if-not-valid-at.ensures) ∙ ap stopped (sym c.null-fault.ensures); within = tt }
+    record { means = at_stop b ns c.args.row c.args.own v c.requires.visit.node c.if-n.false (sym c.if-not-valid_at.ensures) ∙ ap stopped (sym c.null_fault.ensures); within = tt }
 
 pub returns-then-last : goal.returns-then-last
 returns-then-last c =
@@ -32,7 +32,7 @@ returns-then-last c =
     let n = node_on ns v.node in
     let k : n.kind ≡ Kind.Leaf = elim c.match-n.branch [ in-Leaf w ↦ w.in-Leaf.is | in-Struct w ↦ absurd (both_ways c.match-n.last w.last-is c.if-last.true) ] in
     record {
-      means = at_leaf b ns c.args.row c.args.own_val v c.requires.visit.node (sym c.if-not-valid-at.ensures) c.raised-def.result c.raised-def.ensures k;
+      means = at_leaf b ns c.args.row c.args.own v c.requires.visit.node (sym c.if-not-valid_at.ensures) c.raised-def.result c.raised-def.ensures k;
       within = over_low n.nullable v.def c.raised-def.result c.raised-def.ensures;
     }
 
@@ -46,6 +46,6 @@ returns-else-last c =
     let bl = struct_below ns v.node n.slots n.kind k (c.requires.sound.child v.node c.requires.visit.node) in
     let sl = c.requires.visit.slot in
     record {
-      means = at_struct b ns c.args.row c.args.own_val v c.requires.visit.node (sym c.if-not-valid-at.ensures) c.raised-def.result c.raised-def.ensures k;
+      means = at_struct b ns c.args.row c.args.own v c.requires.visit.node (sym c.if-not-valid_at.ensures) c.raised-def.result c.raised-def.ensures k;
       within = (bl.0, omega arith, over_low n.nullable v.def c.raised-def.result c.raised-def.ensures);
     }

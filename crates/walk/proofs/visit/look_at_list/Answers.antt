@@ -17,7 +17,7 @@ returns-then-n c =
     let most = (node_on ns (v.node + 1)).slots in
     let bl = list_below ns v.node n.slots n.kind c.requires.leaf c.requires.group (c.requires.sound.child v.node c.requires.visit.node) in
     let null = slot_is b n most v.slot Slot.Null c.in-Null.ensures in
-    record { means = at_null b ns c.args.row c.args.own_val v c.requires.visit.node c.if-n.true null; within = omega arith }
+    record { means = at_null b ns c.args.row c.args.own v c.requires.visit.node c.if-n.true null; within = omega arith }
 
 pub returns-else-n : goal.returns-else-n
 returns-else-n c =
@@ -28,7 +28,7 @@ returns-else-n c =
     let most = (node_on ns (v.node + 1)).slots in
     let bl = list_below ns v.node n.slots n.kind c.requires.leaf c.requires.group (c.requires.sound.child v.node c.requires.visit.node) in
     let null = slot_is b n most v.slot Slot.Null c.in-Null.ensures in
-    record { means = at_stop b ns c.args.row c.args.own_val v c.requires.visit.node c.if-n.false null ∙ ap stopped (sym c.null-fault.ensures); within = tt }
+    record { means = at_stop b ns c.args.row c.args.own v c.requires.visit.node c.if-n.false null ∙ ap stopped (sym c.null_fault.ensures); within = tt }
 
 pub returns-in-Empty : goal.returns-in-Empty
 returns-in-Empty c =
@@ -40,7 +40,7 @@ returns-in-Empty c =
     let bl = list_below ns v.node n.slots n.kind c.requires.leaf c.requires.group (c.requires.sound.child v.node c.requires.visit.node) in
     let s = slot_is b n most v.slot Slot.Empty c.in-Empty.ensures in
     record {
-      means = at_list b ns c.args.row c.args.own_val v c.requires.visit.node s.0 c.raised-def.result c.raised-def.ensures c.requires.leaf c.requires.group bl (Some (s.1, 0)) (sym s.2);
+      means = at_list b ns c.args.row c.args.own v c.requires.visit.node s.0 c.raised-def.result c.raised-def.ensures c.requires.leaf c.requires.group bl (Some (s.1, 0)) (sym s.2);
       within = over_low n.nullable v.def c.raised-def.result c.raised-def.ensures;
     }
 
@@ -54,7 +54,7 @@ returns-in-Wrong c =
     let bl = list_below ns v.node n.slots n.kind c.requires.leaf c.requires.group (c.requires.sound.child v.node c.requires.visit.node) in
     let s = slot_is b n most v.slot Slot.Wrong c.in-Wrong.ensures in
     record {
-      means = at_list b ns c.args.row c.args.own_val v c.requires.visit.node s.0 c.raised-def.result c.raised-def.ensures c.requires.leaf c.requires.group bl None (sym s.1) ∙ ap stopped (sym c.span-fault.ensures);
+      means = at_list b ns c.args.row c.args.own v c.requires.visit.node s.0 c.raised-def.result c.raised-def.ensures c.requires.leaf c.requires.group bl None (sym s.1) ∙ ap stopped (sym c.span_fault.ensures);
       within = tt;
     }
 
@@ -72,7 +72,7 @@ returns-in-Spanned c =
     let def = c.raised-def.result in
     let some : 0 < end - first = omega arith in
     record {
-      means = at_list b ns c.args.row c.args.own_val v c.requires.visit.node s.0 def c.raised-def.ensures c.requires.leaf c.requires.group bl (Some (first, end - first)) (sym s.1)
-          ∙ spread_more v.rep def (c.args.own_val + 1) (λ q j. trace_at b c.args.row (drop (v.node + 1) ns) (c.args.own_val + 1) q (def + 1) j) first (end - first) some;
+      means = at_list b ns c.args.row c.args.own v c.requires.visit.node s.0 def c.raised-def.ensures c.requires.leaf c.requires.group bl (Some (first, end - first)) (sym s.1)
+          ∙ spread_more v.rep def (c.args.own + 1) (λ q j. trace_at b c.args.row (drop (v.node + 1) ns) (c.args.own + 1) q (def + 1) j) first (end - first) some;
       within = (bl, span_ends most first (end - first) (span_at b n n.kind most v.slot) s.1 (span_fits_at b n n.kind most v.slot) some, over_low n.nullable v.def def c.raised-def.ensures);
     }

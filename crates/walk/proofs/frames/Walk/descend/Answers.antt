@@ -12,6 +12,6 @@ down-preserved c =
     let ns = along c.args.b in
     let v : Visit = record { node = c.down.v.node + 1; slot = c.in-Inside.from; rep = c.down.v.rep; def = c.in-Inside.def + 1 } in
     let a = descend_inside b ns c.requires.sound c.down.self c.down.invariant.0 c.down.v c.down.invariant.1 c.down.invariant.2
-    c.in-ok-def.field-0 c.in-Inside.def c.in-Inside.from c.in-Inside.more c.in-Inside.is c.in-ok-def.ensures.means c.in-ok-def.ensures.within in
+    c.in_ok-def.field-0 c.in-Inside.def c.in-Inside.from c.in-Inside.more c.in-Inside.is c.in_ok-def.ensures.means c.in_ok-def.ensures.within in
     subst (λ (w : Walk). WalkIn ns w × VisitIn ns v × (w.depth ≤ v.node) × (ahead b ns w v ≡ ahead b ns c.args.self.now c.args.v)) (sym c.enter.ensures)
     (a.0, a.1, a.2, a.3 ∙ c.down.invariant.3)

@@ -10,8 +10,8 @@ use Rattle.walk.proofs.frames.Walk.run_list.Goals as goal
 found : (b : Buffers) (ns : List PathNode) (row own : ℕ) (x : Frame) (o : Option Stretch) (s : Stretch) → o ≡ Some s → ChainRun b ns row own x (Ok o) → ChainRun b ns row own x (Ok (Some s))
 found b ns row own x o s e h = subst (λ z. ChainRun b ns row own x (Ok z)) e h
 
-pub chain-run-requires : goal.chain-run-requires
-chain-run-requires c = record { sound = c.requires.sound; slots = top_open (inside c.args.b) (along c.args.b) c.requires.sound c.args.self.now c.requires.walk c.requires.deep c.requires.ready; few = omega (arith, c.requires.walk.deep, c.requires.sound.few) }
+pub chain_run-requires : goal.chain_run-requires
+chain_run-requires c = record { sound = c.requires.sound; slots = top_open (inside c.args.b) (along c.args.b) c.requires.sound c.args.self.now c.requires.walk c.requires.deep c.requires.ready; few = omega (arith, c.requires.walk.deep, c.requires.sound.few) }
 
 pub returns-in-Err : goal.returns-in-Err
 returns-in-Err c = list_stops (inside c.args.b) (along c.args.b) c.requires.sound c.args.self.now c.requires.walk c.requires.deep c.requires.ready c.in-Err.fault c.in-Err.ensures
