@@ -5,7 +5,7 @@ use Rattle.job.proofs.Items.{signed_more, each_all}
 use Rattle.job.proofs.offsets32.Goals as goal
 
 pub loop-word-preserved : goal.loop-word-preserved
-loop-word-preserved c = signed_more w32 (Signed 32 Offset) c.args.words.now c.loop-word.word-index (record { ref_ptr = (0, 0); now = [] }) (vec_items c.loop-word.offsets) _ c.in-ok-signed32.field-0 c.loop-word-test.true (search rules) c.loop-word.invariant c.in-ok-signed32.ensures c.in-ok-push.ensures.items
+loop-word-preserved c = signed_more w32 (Signed 32 Offset) c.args.words.now c.loop-word.word-index (record { ref_ptr = (0, 0); now = [] }) (vec_items c.loop-word.offsets) _ c.in_ok-signed32.field-0 c.loop-word-test.true (search rules) c.loop-word.invariant c.in_ok-signed32.ensures c.in_ok-push.ensures.items
 
 pub returns : goal.returns
 returns c = each_all (Signed 32 Offset) c.args.words.now c.loop-word.word-index _ c.loop-word-test.false c.loop-word.invariant
