@@ -133,7 +133,7 @@ impl Shape {
     fn views(&mut self, parent: u8, slots: u32, nulls: Nulls) -> Result<u32, AllocError> {
         let validity = self.bits(slots, nulls)?;
         let sizes = self.offsets32.len() as u64;
-        let mut lengths = Vec::new(self.offsets32.allocator());
+        let mut lengths = Vec::new(*self.offsets32.allocator());
         for _ in 0..slots {
             let length = self.length();
             lengths.push(length)?;
