@@ -1,11 +1,10 @@
 -- The values of the words of a key, word by word. Assumes nothing.
-use Rattle.std.proofs.Common.{◌≡◌, ℕ, ◌+◌, ◌<◌, ◌≤◌, true, false, List, [], ◌∷◌, ◌++◌, map, length, get_or, take, drop, is_some, Some, None, Ok, Err, Option, Result, sym, refl, ap, ◌∙◌, subst, Bor, rules}
+use Rattle.std.proofs.Common.{◌≡◌, ℕ, ◌+◌, ◌<◌, ◌≤◌, true, false, List, [], ◌∷◌, ◌++◌, map, length, get_or, take, drop, is_some, Some, None, Ok, Err, Option, sym, refl, ap, ◌∙◌, Bor, rules}
 use Rattle.std.specs.Option.{option_map}
 use Rattle.std.proofs.lemmas.List.{append-nil, append_assoc, take_all, take-append-drop, map-append, map_more}
 use Rattle.line_fault.specs.declared.Key.{Key}
-use Rattle.line_fault.specs.declared.LineFault.{LineFault}
 use Rattle.line_fault.specs.declared.LineFault.TheVariants.{Twice}
-use Rattle.keyed.specs.Keyed.{as_list, value_of, values, Given, Part}
+use Rattle.keyed.specs.Keyed.{as_list, value_of, values, Given}
 
 values-append : (key : Key) (vs ws : List (List ℕ)) → values key (vs ++ ws) ≡ values key vs ++ values key ws
 values-append key [] ws = refl

@@ -1,12 +1,12 @@
 -- The levels of a LevelData, form by form.
-use Rattle.std.proofs.Common.{◌≡◌, ℕ, ◌+◌, ◌-◌, ◌<◌, ◌≤◌, min, List, [], ◌∷◌, ◌++◌, length, get_or, take, set, replicate, ℤ, sym, refl, ap, ◌∙◌, subst, arith}
+use Rattle.std.proofs.Common.{◌≡◌, ℕ, ◌+◌, ◌<◌, ◌≤◌, min, ◌++◌, length, get_or, take, replicate, ℤ, sym, ap, ◌∙◌, subst, arith}
 use Rattle.std.proofs.lemmas.List.{length-replicate, get_or-replicate, replicate-append-replicate, take-replicate}
 use Rattle.store.specs.declared.growing.GrowingList.{GrowingList}
 use Rattle.level_data.specs.declared.Form.{Form}
-use Rattle.level_data.specs.declared.Form.TheVariants.{Empty, Uniform, Materialized}
+use Rattle.level_data.specs.declared.Form.TheVariants.{Uniform, Materialized}
 use Rattle.level_data.specs.declared.LevelData.{LevelData}
 use Rattle.level_data.specs.Data.{form_levels, data_levels, data_most, NextForm}
-use Rattle.store.specs.Growing.{list_items, list_most}
+use Rattle.store.specs.Growing.{list_items}
 
 pub materialized : (f : Form) (g : GrowingList ℤ) → f ≡ Materialized → form_levels f g ≡ list_items g
 materialized f g e = ap (λ f. form_levels f g) e

@@ -1,13 +1,13 @@
 -- The trace of a slot is the striping of the row read there.
 use Rattle.std.proofs.Common.{◌≡◌, ℕ, zero, suc, ◌+◌, ◌*◌, Bool, true, false, cond, leb, List, [], ◌∷◌, ◌++◌, Some, None, Ok, Err, Option, sym, refl, ap, ◌∙◌, subst, ap₂}
-use Rattle.rows.specs.Rows.{Path, leaf, struct, list, May, Row, Elements, items, Entry, entry, stripe, each, may, spread, kept, values}
+use Rattle.rows.specs.Rows.{Path, Row, items, Entry, entry, stripe, each, may, spread, kept, values}
 use Rattle.table.specs.declared.node.Kind.{Kind}
 use Rattle.table.specs.declared.refusal.Fault.{Fault}
 use Rattle.table.specs.declared.leaf_path.PathNode.{PathNode}
 use Rattle.table.specs.Paths.{Step, ends, passes, repeats, step_of, above, path}
-use Rattle.reading.specs.Slots.{Buffers, Span, valid, within, span_at}
-use Rattle.reading.specs.Reading.{null_fault, span_fault, child_slots, Reading, map_read, then_read, may_read, span_read, elements_read, Sized, reads, step_read, read, rows}
-use Rattle.reading.specs.Trace.{Trace, whole, stopped, after, ◌then◌, each_trace, may_trace, span_trace, spread_trace, step_trace, trace_at, trace, Agrees, TraceIsStriping}
+use Rattle.reading.specs.Slots.{Buffers, Span, valid, span_at}
+use Rattle.reading.specs.Reading.{null_fault, span_fault, child_slots, Reading, map_read, then_read, may_read, span_read, elements_read, Sized, reads, step_read, read}
+use Rattle.reading.specs.Trace.{Trace, whole, after, ◌then◌, each_trace, may_trace, span_trace, spread_trace, step_trace, trace_at, Agrees, TraceIsStriping}
 
 pub may_agrees : {X : Type 0} (n there : Bool) (e : Fault) (r d : ℕ) (es : ℕ → X → List Entry) (ps : X → List ℕ) (x : Reading X) (go : ℕ → Trace) → ((f : ℕ) → Agrees (es f) ps x (go f)) → Agrees (may n r d es) (kept n ps) (may_read n there e x) (may_trace n there e r d go)
 may_agrees true true e r d es ps (Ok x) go h = h (d + 1)

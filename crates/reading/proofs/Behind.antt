@@ -1,7 +1,7 @@
 -- The bits behind some whole bytes.
-use Rattle.std.proofs.Common.{◌≡◌, ℕ, ◌+◌, ◌*◌, ◌/◌, ◌%◌, ◌^◌, ◌<◌, ◌≤◌, eqb, List, length, get_or, drop, Some, sym, ap, ◌∙◌, ap₂, arith}
+use Rattle.std.proofs.Common.{◌≡◌, ℕ, ◌+◌, ◌/◌, ◌%◌, ◌^◌, eqb, List, get_or, drop, Some, sym, ap, ◌∙◌, ap₂, arith}
 use Rattle.std.proofs.lemmas.List.{get_or-drop}
-use Rattle.reading.specs.Bits.{bit, valid_in, SameRun}
+use Rattle.reading.specs.Bits.{bit, SameRun}
 
 pub bit_behind : (bytes : List ℕ) (start i : ℕ) → bit (drop (start / 8) bytes) (start % 8 + i) ≡ bit bytes (start + i)
 bit_behind bytes start i =

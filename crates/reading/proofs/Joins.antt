@@ -1,5 +1,5 @@
 -- Traces one after another.
-use Rattle.std.proofs.Common.{◌≡◌, ℕ, List, ◌++◌, Some, None, Option, refl, ap₂}
+use Rattle.std.proofs.Common.{◌≡◌, ℕ, List, Some, None, Option, refl, ap₂}
 use Rattle.std.proofs.lemmas.List.{append_assoc}
 use Rattle.rows.specs.Rows.{Entry}
 use Rattle.table.specs.declared.refusal.Fault.{Fault}

@@ -1,7 +1,7 @@
 -- The path to a leaf of a source that meets its rules stays in the buffers.
-use Rattle.std.proofs.Common.{◌≡◌, ℕ, zero, suc, ◌+◌, ◌-◌, ◌*◌, ◌^◌, ◌<◌, ◌≤◌, Bool, true, false, cond, ◌&&◌, eqb, leb, ◌⊎◌, List, [], ◌∷◌, map, length, get_or, Some, None, Option, sym, refl, ap, ◌∙◌, subst, inl, inr, mul-le-mul, arith}
+use Rattle.std.proofs.Common.{◌≡◌, ℕ, ◌+◌, ◌*◌, ◌^◌, ◌<◌, ◌≤◌, true, leb, List, length, get_or, Some, None, Option, sym, refl, ap, ◌∙◌, subst, inl, inr, mul-le-mul, arith}
 use Rattle.std.proofs.lemmas.List.{length-map, get_or-map}
-use Rattle.std.proofs.lemmas.Bool.{and_parts, leb-true, eqb-true, cases_lt, cases_eq, both_ways}
+use Rattle.std.proofs.lemmas.Bool.{and_parts, leb-true, eqb-true, cases_lt, cases_eq}
 use Rattle.table.specs.declared.node.Node.{Node}
 use Rattle.table.specs.declared.node.Kind.{Kind}
 use Rattle.table.specs.declared.node.Source.{Source}
@@ -11,13 +11,13 @@ use Rattle.table.specs.Table.{line, parent_of, node_at, few, each_below, placed,
 use Rattle.table.specs.Buffers.{validity_fits, offsets_fit, buffers_hold}
 use Rattle.table.specs.Paths.{known, path_node, no_path_node, nodes_to}
 use Rattle.table.proofs.Counts.{each_at}
-use Rattle.table.proofs.Laws.{held, slots_few, known_kind, fits_as, struct_slots, line_last, line_chain}
+use Rattle.table.proofs.Laws.{held, slots_few, fits_as, struct_slots, line_last, line_chain}
 use Rattle.table.proofs.Leaves.{LeafOf, leaf_of, line_low}
 use Rattle.table.proofs.Paths.{line-some}
 use Rattle.reading.specs.Bits.{BitsIn}
-use Rattle.reading.specs.Slots.{Buffers, SpansIn, NodeIn, held_by}
+use Rattle.reading.specs.Slots.{SpansIn, NodeIn, held_by}
 use Rattle.reading.specs.Reading.{node_on}
-use Rattle.reading.specs.Sound.{ChildOf, Sound, SourcesAreSound}
+use Rattle.reading.specs.Sound.{ChildOf, SourcesAreSound}
 
 bits_in : (v : Option ℕ) (slots : ℕ) (bytes : List ℕ) → validity_fits v slots bytes ≡ true → BitsIn bytes slots v
 bits_in None slots bytes e = tt

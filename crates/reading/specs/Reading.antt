@@ -1,5 +1,5 @@
 -- What a path of nodes over the buffers reads as: at each slot of its first node, a row or the first fault in visiting order.
-use Rattle.std.specs.Prelude.{◌≡◌, ℕ, zero, suc, ◌+◌, Bool, true, false, cond, List, [], ◌∷◌, length, Some, None, Ok, Err, Option, Result, slice_index_or, refl}
+use Rattle.std.specs.Prelude.{◌≡◌, ℕ, zero, suc, ◌+◌, Bool, true, false, List, [], ◌∷◌, length, Some, None, Ok, Err, Option, Result, slice_index_or, refl}
 use Rattle.std.proofs.Common.{ap}
 use Rattle.rows.specs.Rows.{Path, May, Elements, Row}
 use Rattle.table.specs.declared.refusal.Cause.{Cause}

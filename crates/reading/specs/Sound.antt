@@ -1,5 +1,5 @@
 -- Paths whose readings stay in the buffers, as those of a source that meets its rules do.
-use Rattle.std.specs.Prelude.{◌≡◌, ℕ, ◌+◌, ◌^◌, ◌<◌, ◌≤◌, true, List, length}
+use Rattle.std.specs.Prelude.{◌≡◌, ℕ, ◌+◌, ◌<◌, ◌≤◌, true, List, length}
 use Rattle.table.specs.declared.node.Kind.{Kind}
 use Rattle.table.specs.declared.node.Source.{Source}
 use Rattle.table.specs.declared.leaf_path.PathNode.{PathNode}

@@ -1,6 +1,6 @@
 -- What changes of the records do to the levels that they stand for.
-use Rattle.std.proofs.Common.{◌≡◌, ℕ, zero, suc, ◌+◌, ◌-◌, ◌<◌, ◌≤◌, min, max, List, [], ◌∷◌, ◌++◌, length, get_or, take, drop, set, replicate, ℤ, Ok, Err, Result, sym, refl, ap, ◌∙◌, add-one, arith}
-use Rattle.std.proofs.lemmas.List.{append_assoc, append-nil, length-append, length-replicate, length-set, length-take-le, length-drop, take_more_set, drop-set-lt, take_at, drop_at, set_at, take_all, take-take, drop_all, replicate-append-replicate}
+use Rattle.std.proofs.Common.{◌≡◌, ℕ, suc, ◌+◌, ◌-◌, ◌<◌, ◌≤◌, max, List, [], ◌∷◌, ◌++◌, length, get_or, take, drop, set, replicate, ℤ, Ok, Err, Result, sym, ap, ◌∙◌, arith}
+use Rattle.std.proofs.lemmas.List.{append_assoc, append-nil, length-append, length-replicate, length-set, length-take-le, length-drop, take_more_set, drop-set-lt, take_at, drop_at, set_at, take_all, drop_all, replicate-append-replicate}
 use Rattle.runs.specs.declared.Run.{Run}
 use Rattle.store.specs.declared.growing.GrowingList.{GrowingList}
 use Rattle.store.specs.declared.refusal.Refusal.{Refusal}

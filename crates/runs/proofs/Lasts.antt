@@ -1,6 +1,6 @@
 -- The last levels of a list.
 use Rattle.std.proofs.Common.{◌≡◌, ℕ, zero, suc, ◌+◌, ◌-◌, ◌<◌, ◌≤◌, List, [], ◌∷◌, ◌++◌, length, get_or, take, drop, set, replicate, ℤ, pos, sym, refl, ap, ◌∙◌, ⊎_elim, add-one, arith}
-use Rattle.std.proofs.lemmas.List.{append_assoc, append-nil, length-append, length-replicate, length-drop, length-take-le, drop-append-le, drop_all, drop-drop, drop_at, drop_more, drop-replicate, take_at, take-append-drop, take-append-le, take_more, take_all, take-replicate, nil_from_length, set-append_right, get_or-append_right, get_or-drop, get_or_default}
+use Rattle.std.proofs.lemmas.List.{append_assoc, append-nil, length-append, length-replicate, length-drop, length-take-le, drop-append-le, drop_all, drop-drop, drop_at, drop_more, drop-replicate, take_at, take-append-le, take_more, take-replicate, nil_from_length, set-append_right, get_or-append_right, get_or-drop, get_or_default}
 use Rattle.std.proofs.lemmas.Bool.{cases_lt}
 use Rattle.store.specs.declared.reading.Spot.{Spot}
 use Rattle.runs.specs.declared.Run.{Run}

@@ -1,11 +1,11 @@
 -- What the edits of its memory do to a growing list.
 use Rattle.std.proofs.Common.{◌≡◌, ℕ, zero, suc, ◌+◌, ◌-◌, ◌<◌, ◌≤◌, List, [], ◌∷◌, ◌++◌, length, get_or, take, drop, set, replicate, Ok, Err, Result, sym, refl, ap, ◌∙◌, ⊎_elim, arith}
-use Rattle.std.proofs.lemmas.List.{length-take, length-take-le, get_or-take, take-take, drop-set-lt, length-set, drop-take}
+use Rattle.std.proofs.lemmas.List.{get_or-take, take-take, drop-set-lt, length-set, drop-take}
 use Rattle.store.specs.declared.refusal.Refusal.{Refusal}
 use Rattle.store.specs.declared.refusal.Refusal.TheVariants.{Place, NoRoom}
 use Rattle.store.specs.declared.growing.GrowingList.{GrowingList}
 use Rattle.store.specs.Filled.{filled}
-use Rattle.store.specs.Growing.{list_items, list_memory, list_most, list_used, used-within, items_long, items-most, Grown, Placed, Shortened, Appended, Written, Widened, Inserted}
+use Rattle.store.specs.Growing.{list_items, list_memory, list_most, list_used, used-within, items_long, Grown, Placed, Shortened, Appended, Written, Widened, Inserted}
 use Rattle.store.proofs.Spans.{filled_long, filled_head, filled_both, filled-rest, filled_middle, shifted, shifted_head, shifted-rest, shifted_long}
 
 take_of_set : {A : Type 0} (n : ℕ) (xs : List A) (i : ℕ) (x : A) → i < n → take n (set xs i x) ≡ set (take n xs) i x

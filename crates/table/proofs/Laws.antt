@@ -1,15 +1,15 @@
 -- What the rules say of a node and of the way to it, as facts for the layers above.
-use Rattle.std.proofs.Common.{◌≡◌, ℕ, zero, suc, ◌+◌, ◌-◌, ◌*◌, ◌<◌, ◌≤◌, Bool, true, false, cond, ◌&&◌, eqb, leb, ◌⊎◌, List, [], ◌∷◌, ◌++◌, length, get_or, Some, None, Option, sym, refl, ap, ◌∙◌, subst, inl, inr, add-one, arith}
+use Rattle.std.proofs.Common.{◌≡◌, ℕ, zero, suc, ◌+◌, ◌*◌, ◌<◌, ◌≤◌, Bool, true, false, cond, ◌&&◌, eqb, leb, List, [], ◌∷◌, ◌++◌, length, get_or, Some, None, Option, sym, refl, ap, ◌∙◌, subst, inl, inr, arith}
 use Rattle.std.proofs.lemmas.List.{length_push, get_or_push, get_or_append_left}
-use Rattle.std.proofs.lemmas.Bool.{and_parts, leb-true, eqb-true, eq-eqb, cases_eq, cases_lt, cases_Bool, cond-true, cond-false, both_ways}
+use Rattle.std.proofs.lemmas.Bool.{and_parts, leb-true, eqb-true, eq-eqb, cases_eq, cases_lt, both_ways}
 use Rattle.table.specs.declared.node.Node.{Node}
 use Rattle.table.specs.declared.node.Kind.{Kind}
 use Rattle.table.specs.declared.node.Source.{Source}
 use Rattle.table.specs.Kinds.{kind_of}
-use Rattle.table.specs.Table.{how_many, line, way, parent_of, children, node_at, few, each_below, placed, size_fits, children_fit, path_fits, kind_fits, node_fits, table_holds, Rising}
+use Rattle.table.specs.Table.{line, way, parent_of, children, node_at, few, each_below, placed, size_fits, children_fit, path_fits, kind_fits, node_fits, table_holds, Rising}
 use Rattle.table.specs.Buffers.{slots_fit, child_fits, under_parent, validity_fits, offsets_fit, node_held, buffers_hold}
 use Rattle.table.proofs.Counts.{each_at, many_some}
-use Rattle.table.proofs.Lines.{fewer, way_on, line_root}
+use Rattle.table.proofs.Lines.{fewer, way_on}
 use Rattle.table.proofs.Shapes.{holds_rising}
 use Rattle.table.proofs.Paths.{way-some}
 

@@ -1,17 +1,16 @@
 -- A leaf of a table that meets the rules.
-use Rattle.std.proofs.Common.{◌≡◌, ℕ, zero, suc, ◌+◌, ◌-◌, ◌<◌, ◌≤◌, Bool, true, false, cond, ◌&&◌, eqb, ltb, leb, ◌⊎◌, List, [], ◌∷◌, ◌++◌, length, get_or, take, replicate, Some, None, Ok, Err, Result, sym, refl, ap, ◌∙◌, inl, inr, arith, length-append}
+use Rattle.std.proofs.Common.{◌≡◌, ℕ, zero, suc, ◌+◌, ◌-◌, ◌<◌, ◌≤◌, true, cond, ◌&&◌, eqb, ltb, leb, List, [], ◌∷◌, ◌++◌, length, get_or, take, replicate, Ok, Err, sym, ap, ◌∙◌, arith, length-append}
 use Rattle.std.specs.List.{AllByRecursion as All}
 use Rattle.std.proofs.ByRecursion.{All-append, All-weaker, All-get_or}
 use Rattle.std.proofs.lemmas.List.{take_at, length-map}
 use Rattle.std.proofs.lemmas.Bool.{and_parts, and_from, cond-true, cond_both, leb-true, lt-ltb, eq-eqb, eqb-false}
 use Rattle.table.specs.declared.node.Node.{Node}
-use Rattle.table.specs.declared.node.Kind.{Kind}
 use Rattle.table.specs.declared.refusal.Refusal.{Refusal}
 use Rattle.table.specs.declared.leaf_path.PathNode.{PathNode}
 use Rattle.table.specs.declared.leaf_path.LeafPath.{LeafPath}
 use Rattle.table.specs.Kinds.{kind_of}
 use Rattle.rows.specs.Rows.{most, deep}
-use Rattle.table.specs.Table.{line, way, parent_of, children, node_at, few, each_below, placed, size_fits, children_fit, path_fits, kind_fits, node_fits, table_holds, is_leaf, Rising}
+use Rattle.table.specs.Table.{line, way, parent_of, children, node_at, few, each_below, placed, kind_fits, node_fits, table_holds, is_leaf, Rising}
 use Rattle.table.specs.Paths.{path, path_of, path_node, no_path_node, nodes_to, leaf_path, leaf_answer}
 use Rattle.table.proofs.Counts.{each_at}
 use Rattle.table.proofs.Lines.{fewer}

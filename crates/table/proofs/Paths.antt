@@ -1,12 +1,12 @@
 -- How the path to a leaf is written down, and its levels counted.
-use Rattle.std.proofs.Common.{◌≡◌, ℕ, zero, suc, ◌+◌, ◌-◌, ◌*◌, ◌<◌, ◌≤◌, Bool, true, false, cond, eqb, ◌⊎◌, List, [], ◌∷◌, ◌++◌, map, length, get_or, drop, set, replicate, Some, None, Option, sym, refl, ap, ◌∙◌, inl, inr, arith}
+use Rattle.std.proofs.Common.{◌≡◌, ℕ, zero, suc, ◌+◌, ◌-◌, ◌*◌, ◌<◌, ◌≤◌, Bool, true, false, cond, eqb, List, [], ◌∷◌, ◌++◌, map, length, get_or, drop, set, replicate, Some, None, Option, sym, refl, ap, ◌∙◌, arith}
 use Rattle.std.proofs.lemmas.List.{append_assoc, map-append, length_push, drop-set, drop_more, drop_all, drop-replicate, length-set}
 use Rattle.rows.specs.Rows.{Path, leaf, struct, list, over, most, deep}
 use Rattle.table.specs.declared.node.Node.{Node}
 use Rattle.table.specs.declared.node.Kind.{Kind}
 use Rattle.table.specs.declared.leaf_path.PathNode.{PathNode}
 use Rattle.table.specs.Table.{line, way, parent_of, Rising}
-use Rattle.table.specs.Paths.{Step, step_of, above, path, path_node, no_path_node, nodes_to}
+use Rattle.table.specs.Paths.{step_of, above, path, path_node, no_path_node, nodes_to}
 use Rattle.table.proofs.Lines.{line_root, line_step, fewer}
 
 -- the nodes from place k on are written, and node at comes next

@@ -1,14 +1,14 @@
 -- Tables that meet the rules, and tables that have a node against them.
-use Rattle.std.proofs.Common.{◌≡◌, ℕ, zero, suc, ◌+◌, ◌-◌, ◌<◌, ◌≤◌, Bool, true, false, cond, ◌⊎◌, List, length, Ok, Err, Result, sym, refl, ap, ◌∙◌, inl, inr, add-one, arith}
-use Rattle.std.proofs.lemmas.Bool.{and_right, and_parts, cond-false, cond-true, cases_eq, cases_lt, cases_Bool, both_ways}
+use Rattle.std.proofs.Common.{◌≡◌, ℕ, zero, suc, ◌<◌, true, false, cond, List, length, Ok, Err, Result, sym, ◌∙◌, inl, inr, add-one, arith}
+use Rattle.std.proofs.lemmas.Bool.{and_right, and_parts, cond-false, cond-true, cases_lt, cases_Bool, both_ways}
 use Rattle.table.specs.declared.node.Node.{Node}
 use Rattle.table.specs.declared.refusal.Refusal.{Refusal}
 use Rattle.table.specs.declared.node.Source.{Source}
 use Rattle.table.specs.Kinds.{kind_of}
-use Rattle.table.specs.Table.{line, way, among, parent_of, children, node_at, few, each_below, placed, kind_fits, node_fits, table_holds, leaves, shape_answer, Rising}
+use Rattle.table.specs.Table.{line, among, parent_of, children, node_at, few, each_below, placed, kind_fits, node_fits, table_holds, leaves, shape_answer, Rising}
 use Rattle.table.specs.Buffers.{node_held, buffers_hold, survey_answer}
 use Rattle.table.proofs.Counts.{each_stop}
-use Rattle.table.proofs.Lines.{among_low, fewer}
+use Rattle.table.proofs.Lines.{among_low}
 
 pub bad_node : (ns : List Node) (i : ℕ) → i < length ns → node_fits ns i ≡ false → Err Refusal.Table ≡ shape_answer ns
 bad_node ns i l e =

@@ -1,5 +1,5 @@
 -- The levels of a leaf of a table that meets the rules are at most 15 and 7.
-use Rattle.std.proofs.Common.{◌≡◌, ℕ, zero, suc, ◌+◌, ◌-◌, ◌*◌, ◌<◌, ◌≤◌, Bool, true, false, List, [], ◌∷◌, ◌++◌, length, get_or, Some, None, Option, sym, refl, ap, ◌∙◌, subst, add-one, arith}
+use Rattle.std.proofs.Common.{◌≡◌, ℕ, zero, suc, ◌+◌, ◌-◌, ◌*◌, ◌<◌, ◌≤◌, Bool, true, false, List, [], ◌∷◌, length, get_or, ap, ◌∙◌, arith}
 use Rattle.table.specs.declared.node.Node.{Node}
 use Rattle.table.specs.declared.node.Kind.{Kind}
 use Rattle.table.specs.Kinds.{kind_of}
@@ -9,7 +9,7 @@ use Rattle.table.specs.declared.leaf_path.PathNode.{PathNode}
 use Rattle.table.specs.Paths.{Step, ends, passes, repeats, step_of, above, path, path_node, no_path_node, nodes_to, path_of, known}
 use Rattle.std.proofs.lemmas.Bool.{eqb-true}
 use Rattle.table.proofs.Laws.{line_last}
-use Rattle.table.proofs.Leaves.{LeafOf, leaf_of}
+use Rattle.table.proofs.Leaves.{leaf_of}
 use Rattle.table.proofs.Paths.{line-some, over_low}
 use Rattle.std.proofs.lemmas.List.{length-map, get_or-map}
 

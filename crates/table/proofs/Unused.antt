@@ -1,13 +1,12 @@
 -- Sources that differ only in fields that are not read.
-use Rattle.std.proofs.Common.{◌≡◌, ℕ, zero, suc, ◌+◌, ◌*◌, Bool, true, false, cond, ◌&&◌, eqb, leb, List, [], ◌∷◌, ◌++◌, map, length, get_or, Some, None, Ok, Err, Option, Result, sym, refl, ap, ◌∙◌, subst, ap₂}
+use Rattle.std.proofs.Common.{◌≡◌, ℕ, zero, suc, ◌+◌, ◌*◌, Bool, cond, ◌&&◌, eqb, leb, List, [], ◌∷◌, ◌++◌, map, length, get_or, Some, None, Ok, Err, Option, sym, refl, ap, ◌∙◌, ap₂}
 use Rattle.std.proofs.lemmas.List.{length-map}
 use Rattle.table.specs.declared.node.Node.{Node}
 use Rattle.table.specs.declared.node.Kind.{Kind}
-use Rattle.table.specs.declared.node.Source.{Source}
 use Rattle.table.specs.declared.refusal.Refusal.{Refusal}
 use Rattle.table.specs.Kinds.{kind_of}
-use Rattle.table.specs.Table.{each_below, how_many, no_node, node_at, parent_of, way, line, among, placed, children, few, kind_fits, node_fits, table_holds, is_leaf, leaves}
-use Rattle.table.specs.Buffers.{slots_fit, child_fits, under_parent, validity_fits, offsets_fit, node_held, buffers_hold, survey_answer}
+use Rattle.table.specs.Table.{each_below, how_many, no_node, node_at, parent_of, way, line, among, placed, children, kind_fits, node_fits, table_holds, is_leaf, leaves}
+use Rattle.table.specs.Buffers.{slots_fit, child_fits, under_parent, validity_fits, offsets_fit, node_held, buffers_hold}
 use Rattle.table.specs.Unread.{has_size, has_offsets, has_sizes, used, NotRead}
 
 each_same : (n : ℕ) (f g : ℕ → Bool) → ((i : ℕ) → f i ≡ g i) → each_below n f ≡ each_below n g

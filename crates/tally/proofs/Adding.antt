@@ -1,5 +1,5 @@
 -- Sizes add up.
-use Rattle.std.proofs.Common.{◌≡◌, ℕ, zero, suc, ◌+◌, ◌-◌, ◌<◌, ◌≤◌, Bool, true, false, Some, None, sym, refl, ap, ◌∙◌, subst, ap₂, arith}
+use Rattle.std.proofs.Common.{◌≡◌, ℕ, zero, suc, ◌+◌, ◌-◌, ◌<◌, ◌≤◌, Bool, true, false, Some, None, sym, refl, ap, ◌∙◌, ap₂, arith}
 use Rattle.rows.specs.Rows.{one}
 use Rattle.tally.specs.Packed.{count_of}
 use Rattle.tally.specs.Sizes.{Size, ◌plus◌, each_size, spread_size}

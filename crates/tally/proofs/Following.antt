@@ -1,12 +1,12 @@
 -- Slots whose elements follow one another.
-use Rattle.std.proofs.Common.{◌≡◌, ℕ, zero, suc, ◌+◌, ◌-◌, ◌*◌, ◌<◌, ◌≤◌, Bool, true, false, cond, eqb, leb, List, length, get_or, drop, ℤ, pos, negsuc, ◌-ℤ◌, Some, None, Option, sym, refl, ap, ◌∙◌, subst, ap₂, arith}
+use Rattle.std.proofs.Common.{◌≡◌, ℕ, zero, suc, ◌+◌, ◌-◌, ◌*◌, ◌<◌, ◌≤◌, Bool, true, false, cond, eqb, leb, List, length, get_or, drop, ℤ, pos, negsuc, ◌-ℤ◌, Some, None, sym, refl, ap, ◌∙◌, subst, ap₂, arith}
 use Rattle.std.proofs.lemmas.Bool.{leb-true, eqb-true, eqb-false}
 use Rattle.table.specs.declared.node.Kind.{Kind}
 use Rattle.table.specs.declared.leaf_path.PathNode.{PathNode}
 use Rattle.reading.specs.declared.slot.Slot.{Slot}
 use Rattle.reading.specs.Slots.{Buffers, Span, valid, within, span, span_at, held, slot_at}
 use Rattle.reading.specs.Reading.{node_on}
-use Rattle.tally.specs.Sizes.{Size, ◌plus◌, each_size, span_size, spread_size, size_at, sizes}
+use Rattle.tally.specs.Sizes.{Size, ◌plus◌, each_size, size_at, sizes}
 use Rattle.tally.specs.Reaching.{Repeats}
 use Rattle.tally.proofs.Adding.{zero_plus, plus_zero, shuffle, size_on, spread-some}
 use Rattle.tally.proofs.Nodes.{size_null, size_list}

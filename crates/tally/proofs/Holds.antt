@@ -1,8 +1,7 @@
 -- Values below slots over which there is no list.
-use Rattle.std.proofs.Common.{◌≡◌, ℕ, ◌+◌, ◌-◌, ◌<◌, ◌≤◌, Bool, true, false, ◌&&◌, ◌⊎◌, List, length, drop, Some, None, Option, sym, refl, ap, ◌∙◌, subst, ap₂, inl, inr, arith}
+use Rattle.std.proofs.Common.{◌≡◌, ℕ, ◌+◌, ◌-◌, ◌<◌, ◌≤◌, Bool, true, false, ◌&&◌, ◌⊎◌, List, length, drop, Some, None, Option, sym, refl, ap, ◌∙◌, ap₂, inl, inr, arith}
 use lib.Bits.{bit_and}
 use lib.Count.{ones}
-use Rattle.std.proofs.lemmas.Bool.{both_ways}
 use Rattle.rows.specs.Rows.{one}
 use Rattle.table.specs.declared.node.Kind.{Kind}
 use Rattle.table.specs.declared.leaf_path.PathNode.{PathNode}
@@ -10,7 +9,7 @@ use Rattle.table.specs.Paths.{step_of}
 use Rattle.reading.specs.Slots.{Buffers, valid}
 use Rattle.reading.specs.Reading.{node_on}
 use Rattle.tally.specs.Packed.{packed, count_of}
-use Rattle.tally.specs.Sizes.{Size, ◌plus◌, size_at, sizes}
+use Rattle.tally.specs.Sizes.{◌plus◌, size_at, sizes}
 use Rattle.tally.specs.Reaching.{holds, holds_by, Holding, HeldBelow}
 use Rattle.tally.proofs.Packing.{packed_and, packed_ext, packed-same, packed_ones}
 use Rattle.tally.proofs.Adding.{size_on, each_tested, count_le}

@@ -1,5 +1,5 @@
 -- The laws of tests packed into one number.
-use Rattle.std.proofs.Common.{◌≡◌, ℕ, zero, suc, ◌+◌, ◌-◌, ◌*◌, ◌/◌, ◌%◌, ◌^◌, ◌<◌, ◌≤◌, min, Bool, true, false, not, ◌&&◌, eqb, List, get_or, sym, refl, ap, ◌∙◌, subst, ap₂, mul_assoc, mul_comm, pow-suc, arith, pow_mono}
+use Rattle.std.proofs.Common.{◌≡◌, ℕ, zero, suc, ◌+◌, ◌-◌, ◌*◌, ◌/◌, ◌%◌, ◌^◌, ◌<◌, ◌≤◌, min, Bool, true, false, not, ◌&&◌, eqb, List, get_or, sym, refl, ap, ◌∙◌, subst, ap₂, mul_assoc, pow-suc, arith, pow_mono}
 use native.Mathlib.Decide.{dec_lt}
 use lib.Bits.{bit_and, and_step}
 use lib.Count.{ones, ones_step, count_trailing_zeros, under}

@@ -1,5 +1,5 @@
 -- The sizes of neighbouring slots by those of one range of slots below them.
-use Rattle.std.proofs.Common.{◌≡◌, ℕ, zero, suc, ◌+◌, ◌-◌, ◌*◌, ◌^◌, ◌<◌, ◌≤◌, Bool, true, false, cond, eqb, leb, List, map, length, get_or, drop, ℤ, pos, negsuc, ◌-ℤ◌, Some, None, Option, sym, refl, ap, ◌∙◌, subst, ap₂, mul-le-mul_right, suc-mul, add-mul, arith, eq-eqb, ne_eqb, le-leb}
+use Rattle.std.proofs.Common.{◌≡◌, ℕ, zero, suc, ◌+◌, ◌-◌, ◌*◌, ◌<◌, ◌≤◌, true, false, cond, eqb, List, map, length, get_or, drop, ℤ, pos, ◌-ℤ◌, Some, None, Option, sym, refl, ap, ◌∙◌, subst, ap₂, mul-le-mul_right, suc-mul, add-mul, arith, eq-eqb, ne_eqb, le-leb}
 use native.Mathlib.Decide.{dec_lt}
 use borrow.Author.Differences.{ints}
 use Rattle.std.proofs.lemmas.List.{map-id}
@@ -7,13 +7,13 @@ use Rattle.rows.specs.Rows.{one}
 use Rattle.table.specs.declared.node.Kind.{Kind}
 use Rattle.table.specs.declared.leaf_path.PathNode.{PathNode}
 use Rattle.reading.specs.Bits.{SameRun}
-use Rattle.reading.specs.Slots.{Buffers, Span, valid, within, span, listed, span_at, SpansIn}
+use Rattle.reading.specs.Slots.{Buffers, Span, valid, within, span, listed, span_at}
 use Rattle.reading.specs.Reading.{node_on}
 use Rattle.reading.specs.Sound.{ChildOf, Sound}
 use Rattle.tally.specs.declared.reach.Reach.{Reach}
 use Rattle.tally.specs.Sizes.{Size, ◌plus◌, each_size, span_size, spread_size, size_at, sizes}
-use Rattle.tally.specs.Reaching.{Repeats, Reaches, Reached, AllValid, place_at, empties, Rises, Rising, Rose, SizedAlike, SameSized}
-use Rattle.tally.proofs.Adding.{zero_plus, plus_zero, shuffle, size_split, each_ext, each_null, spread-some}
+use Rattle.tally.specs.Reaching.{Repeats, Reaches, Reached, AllValid, place_at, empties, Rises, Rose, SameSized}
+use Rattle.tally.proofs.Adding.{zero_plus, shuffle, size_split, each_ext, each_null, spread-some}
 use Rattle.tally.proofs.Nodes.{size_null, size_struct, size_list}
 use Rattle.tally.proofs.Offsets.{rises_all}
 

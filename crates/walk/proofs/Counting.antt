@@ -1,12 +1,12 @@
 -- Counting a trace stretch by stretch.
-use Rattle.std.proofs.Common.{◌≡◌, ℕ, zero, suc, ◌+◌, ◌-◌, ◌<◌, ◌≤◌, Bool, true, false, cond, ltb, List, [], ◌∷◌, ◌++◌, length, replicate, Some, None, Ok, Err, Option, Result, sym, refl, ap, ◌∙◌, ap₂, arith}
+use Rattle.std.proofs.Common.{◌≡◌, ℕ, ◌+◌, ◌-◌, ◌<◌, true, false, cond, [], length, replicate, Some, Ok, Err, Result, sym, ap, ◌∙◌, ap₂, arith}
 use Rattle.std.proofs.lemmas.Bool.{lt-ltb, le-ltb}
 use Rattle.std.proofs.lemmas.List.{length-append, length-replicate}
 use Rattle.table.specs.declared.refusal.Refusal.{Refusal}
 use Rattle.walk.specs.declared.Measured.{Measured}
 use Rattle.walk.specs.declared.frames.Stretch.{Stretch}
-use Rattle.rows.specs.Rows.{Entry, entry}
-use Rattle.reading.specs.Trace.{Trace, whole, ◌then◌}
+use Rattle.rows.specs.Rows.{entry}
+use Rattle.reading.specs.Trace.{Trace, ◌then◌}
 use Rattle.std.specs.List.{range_with_len}
 use Rattle.std.proofs.lemmas.List.FromFn.{length-range_with_len}
 use Rattle.walk.specs.Walk.{emitted, Counted}

@@ -1,17 +1,14 @@
 -- Traces one after another, and how a walk's frames change what is left.
-use Rattle.std.proofs.Common.{◌≡◌, ℕ, zero, suc, ◌+◌, ◌-◌, ◌*◌, ◌<◌, ◌≤◌, Bool, true, false, cond, ◌≢◌, List, [], ◌∷◌, ◌++◌, length, get_or, drop, set, Some, None, Ok, Option, sym, refl, ap, ◌∙◌, subst, ap₂, arith}
-use Rattle.std.proofs.lemmas.List.{append_assoc, get_or-set_same, get_or-set_other, length-set}
+use Rattle.std.proofs.Common.{◌≡◌, ℕ, zero, suc, ◌+◌, ◌-◌, ◌<◌, ◌≤◌, ◌≢◌, List, length, get_or, drop, set, Some, Ok, sym, refl, ap, ◌∙◌, subst, ap₂, arith}
+use Rattle.std.proofs.lemmas.List.{get_or-set_same, get_or-set_other, length-set}
 use Rattle.table.specs.declared.leaf_path.PathNode.{PathNode}
-use Rattle.table.specs.declared.refusal.Fault.{Fault}
 use Rattle.walk.specs.declared.frames.Frame.{Frame}
 use Rattle.walk.specs.declared.visit.Visit.{Visit}
 use Rattle.walk.specs.declared.frames.Walk.{Walk}
-use Rattle.rows.specs.Rows.{Entry, entry}
 use Rattle.reading.specs.Slots.{Buffers}
-use Rattle.reading.specs.Reading.{node_on}
 use Rattle.reading.specs.Sound.{Sound}
 use Rattle.reading.proofs.Joins.{then_assoc}
-use Rattle.reading.specs.Trace.{Trace, whole, stopped, after, ◌then◌, each_trace, trace_at, trace}
+use Rattle.reading.specs.Trace.{Trace, ◌then◌, each_trace, trace_at, trace}
 use Rattle.walk.specs.declared.visit.Look.{Look}
 use Rattle.walk.specs.declared.visit.Look.TheVariants.{Inside}
 use Rattle.walk.specs.Walk.{look_trace, LookIn, ahead, visit_trace, VisitIn, elements_trace, unused, frame_trace, left, rest, FrameIn, FramesIn, WalkIn, Advanced}

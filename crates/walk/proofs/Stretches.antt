@@ -1,13 +1,12 @@
 -- A run of leaves that are alike is one stretch.
-use Rattle.std.proofs.Common.{◌≡◌, ℕ, zero, suc, ◌+◌, ◌-◌, ◌*◌, ◌<◌, ◌≤◌, Bool, true, false, cond, List, [], ◌∷◌, ◌++◌, length, get_or, drop, set, replicate, Some, None, Ok, Err, sym, refl, ap, ◌∙◌, subst, ap₂, arith}
+use Rattle.std.proofs.Common.{◌≡◌, ℕ, zero, suc, ◌+◌, ◌-◌, ◌<◌, ◌≤◌, Bool, true, false, cond, List, [], ◌∷◌, length, set, replicate, Some, Ok, Err, sym, refl, ap, ◌∙◌, subst, ap₂, arith}
 use Rattle.table.specs.declared.node.Kind.{Kind}
 use Rattle.table.specs.declared.leaf_path.PathNode.{PathNode}
 use Rattle.table.specs.declared.refusal.Fault.{Fault}
 use Rattle.walk.specs.declared.frames.Frame.{Frame}
-use Rattle.walk.specs.declared.visit.Visit.{Visit}
 use Rattle.walk.specs.declared.frames.Stretch.{Stretch}
-use Rattle.rows.specs.Rows.{Entry, entry, over}
-use Rattle.reading.specs.Bits.{valid_in, SameRun}
+use Rattle.rows.specs.Rows.{entry, over}
+use Rattle.reading.specs.Bits.{SameRun}
 use Rattle.reading.specs.Slots.{Buffers, valid}
 use Rattle.reading.specs.Reading.{null_fault, node_on}
 use Rattle.reading.specs.Sound.{Sound}
@@ -15,7 +14,7 @@ use Rattle.reading.specs.Trace.{Trace, whole, stopped, ◌then◌, each_trace, t
 use Rattle.std.proofs.lemmas.List.{length-set}
 use Rattle.walk.specs.declared.frames.Walk.{Walk}
 use Rattle.std.specs.List.{range_with_len}
-use Rattle.walk.specs.Walk.{ChainRun, RunOr, StretchIn, visit_of, Alike, Open, visit_trace, elements_trace, emitted, WalkIn, FrameIn, Ready, top, frame_trace, left, rest}
+use Rattle.walk.specs.Walk.{ChainRun, RunOr, visit_of, Alike, Open, visit_trace, emitted, WalkIn, FrameIn, Ready, top, frame_trace, left, rest}
 use Rattle.walk.proofs.AtNode.{at_null, at_stop, at_leaf, at_struct}
 use Rattle.reading.proofs.Joins.{then_assoc}
 use Rattle.walk.proofs.Stack.{each_more, left_at, left_push, frames_in_at, frames_in_push}

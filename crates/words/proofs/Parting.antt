@@ -1,6 +1,6 @@
 -- One byte more of a text that is parted at blanks. Assumes nothing.
-use Rattle.std.proofs.Common.{◌≡◌, ℕ, ◌+◌, ◌-◌, ◌<◌, ◌≤◌, min, Bool, true, false, cond, List, [], ◌∷◌, ◌++◌, length, get_or, take, drop, sym, refl, ap, ◌∙◌, subst, arith, rules}
-use Rattle.std.proofs.lemmas.List.{append-nil, append_assoc, take_all, take_more, drop_more, drop_all, drop-take, length-drop, length-take, length-take-le, drop-append-le}
+use Rattle.std.proofs.Common.{◌≡◌, ℕ, ◌+◌, ◌-◌, ◌<◌, ◌≤◌, Bool, true, false, cond, List, [], ◌∷◌, ◌++◌, length, get_or, take, drop, sym, refl, ap, ◌∙◌, subst, arith}
+use Rattle.std.proofs.lemmas.List.{append-nil, append_assoc, take_all, take_more, drop_more, drop_all, drop-take, length-drop, length-take-le, drop-append-le}
 use Rattle.words.specs.Words.{blank, ended, parted}
 
 at-blank : (word : List ℕ) (b : ℕ) (bs : List ℕ) → blank b ≡ true → parted word (b ∷ bs) ≡ ended word ++ parted [] bs

@@ -1,5 +1,5 @@
 -- The words that a loop over a text has found so far. Assumes nothing.
-use Rattle.std.proofs.Common.{◌≡◌, ℕ, ◌+◌, ◌-◌, ◌<◌, ◌≤◌, true, false, List, [], ◌∷◌, ◌++◌, map, length, get_or, take, drop, sym, refl, ap, ◌∙◌, subst, arith, Bor}
+use Rattle.std.proofs.Common.{◌≡◌, ℕ, ◌+◌, ◌-◌, ◌<◌, ◌≤◌, true, false, List, [], ◌∷◌, ◌++◌, map, length, get_or, take, drop, ap, ◌∙◌, arith, Bor}
 use Rattle.std.proofs.lemmas.List.{map_push, take_rest}
 use Rattle.words.specs.Words.{blank, parted}
 use Rattle.words.proofs.Parting.{at_word_end, at_no_word, at_letter, last_word, no_last_word}

@@ -1,4 +1,4 @@
-use Rattle.std.proofs.Common.{◌≡◌, ◌<◌, ◌≤◌, length, get_or, pos, sym, refl, ap, ◌∙◌, arith, w16, SFits, to_z, rules}
+use Rattle.std.proofs.Common.{◌≡◌, ◌≤◌, length, get_or, pos, sym, refl, ap, ◌∙◌, arith, w16, SFits, to_z, rules}
 use Rattle.std.proofs.lemmas.List.{take_all, take_more_same}
 use Rattle.std.proofs.lemmas.Int.{to_z-of_z}
 use Rattle.store_reader.proofs.holds.Goals as goal

@@ -1,4 +1,4 @@
-use Rattle.std.proofs.Common.{◌≡◌, ◌-◌}
+use Rattle.std.proofs.Common.{◌-◌}
 use Rattle.reading.specs.Slots.{inside, along}
 use Rattle.reading.specs.Trace.{trace}
 use Rattle.walk.proofs.Counting.{tallied}

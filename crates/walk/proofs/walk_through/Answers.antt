@@ -1,4 +1,4 @@
-use Rattle.std.proofs.Common.{◌≡◌, ℕ, ◌+◌, ◌-◌, ◌≤◌, List, Some, Ok, Option, sym, subst, arith}
+use Rattle.std.proofs.Common.{◌≡◌, ◌-◌, List, Some, Ok, Option, subst, arith}
 use Rattle.table.specs.declared.leaf_path.PathNode.{PathNode}
 use Rattle.reading.specs.Slots.{Buffers, inside, along}
 use Rattle.reading.specs.Trace.{trace}

@@ -1,4 +1,4 @@
-use Rattle.std.proofs.Common.{◌≡◌, ◌-◌, ◌≤◌, length}
+use Rattle.std.proofs.Common.{◌-◌, ◌≤◌, length}
 use Rattle.reading.specs.Slots.{inside, along}
 use Rattle.reading.specs.Trace.{trace}
 use Rattle.walk.specs.Walk.{WalkIn, Counted, rest}

@@ -1,4 +1,4 @@
-use Rattle.std.proofs.Common.{vec_items, sym, refl, ap, ◌∙◌, rules}
+use Rattle.std.proofs.Common.{vec_items, refl, ap, ◌∙◌, rules}
 use Rattle.words.proofs.Pushing.{word_ends, no_word_ends, word_goes_on, with_last, without_last}
 use Rattle.words.proofs.pieces.Goals as goal
 use Rattle.words.proofs.pieces.Goals.{then-is_blank, else-is_blank, then-start-i+in_ok-push, else-start-i, then-start-text+in_ok-push-2, else-start-text}

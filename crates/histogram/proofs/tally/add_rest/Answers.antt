@@ -1,6 +1,6 @@
-use Rattle.std.proofs.Common.{◌≡◌, ◌+◌, ◌≤◌, get_or, sym, ap, ◌∙◌, arith, w16, SFits, rules}
+use Rattle.std.proofs.Common.{◌≡◌, ◌≤◌, ap, arith, w16, SFits, rules}
 use Rattle.std.proofs.lemmas.Int.{to_z-of_z}
-use Rattle.histogram.specs.Tallies.{hits, occurrences, part}
+use Rattle.histogram.specs.Tallies.{occurrences, part}
 use Rattle.histogram.proofs.Occurrences.{part_none, part_more, part_past}
 use Rattle.histogram.proofs.tally.add_rest.Goals as goal
 

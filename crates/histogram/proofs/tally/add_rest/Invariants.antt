@@ -1,4 +1,4 @@
-use Rattle.std.proofs.Common.{◌≡◌, ℕ, ◌+◌, ◌-◌, ◌<◌, min, get_or}
+use Rattle.std.proofs.Common.{◌≡◌, ℕ, ◌+◌, ◌<◌, min, get_or}
 use Rattle.histogram.specs.Tallies.{occurrences, part}
 use Rattle.histogram.proofs.tally.add_rest.Given as goal
 

@@ -1,7 +1,7 @@
 use Rattle.std.proofs.Common.{◌≡◌, ◌+◌, ◌≤◌, min, [], ◌++◌, length, replicate, sym, refl, ap, ◌∙◌, arith, w16, SFits, to_z, of_z, rules}
 use Rattle.std.proofs.lemmas.List.{length-replicate, append-nil}
 use Rattle.std.proofs.lemmas.Int.{to_z-of_z}
-use Rattle.level_data.specs.declared.Form.TheVariants.{Empty, Uniform, Materialized}
+use Rattle.level_data.specs.declared.Form.TheVariants.{Empty, Uniform}
 use Rattle.level_data.specs.Data.{form_levels, data_levels, data_most}
 use Rattle.store.specs.Growing.{list_items, list_most}
 use Rattle.level_data.proofs.Forms.{uniform, uniform_long, uniform_more, materialized, formed_as, uniform_is}

@@ -1,6 +1,6 @@
 use Rattle.std.proofs.Common.{◌≡◌, ◌≤◌, min, replicate, refl, ap, ◌∙◌, arith, w16, SFits, rules}
 use Rattle.std.proofs.lemmas.Int.{to_z-of_z}
-use Rattle.level_data.specs.Data.{form_levels, data_levels, data_most}
+use Rattle.level_data.specs.Data.{form_levels, data_most}
 use Rattle.level_data.proofs.Forms.{uniform_long, uniform_less}
 use Rattle.level_data.proofs.LevelDataLevelStore.cut_back.Goals as goal
 use Rattle.level_data.proofs.LevelDataLevelStore.cut_back.Goals.{then-kept-gt0-2, else-kept-gt0-2}

@@ -1,4 +1,4 @@
-use Rattle.std.proofs.Common.{◌≡◌, ◌+◌, ◌/◌, ◌%◌, Some, sym, ap, ◌∙◌, subst}
+use Rattle.std.proofs.Common.{◌/◌, ◌%◌, Some, sym, subst}
 use Rattle.std.proofs.lemmas.List.{take_rest}
 use Rattle.reading.specs.Bits.{SameRun}
 use Rattle.reading.proofs.Behind.{same_behind}

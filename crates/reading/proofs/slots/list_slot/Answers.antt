@@ -1,4 +1,4 @@
-use Rattle.std.proofs.Common.{◌≡◌, ◌+◌, map, ℤ, ◌-ℤ◌, sym, ap, ◌∙◌, ap₂, arith, rules}
+use Rattle.std.proofs.Common.{◌≡◌, ◌+◌, map, ◌-ℤ◌, sym, ap, ◌∙◌, ap₂, arith, rules}
 use Rattle.reading.specs.Slots.{span, listed, held}
 use Rattle.reading.proofs.Places.{slot_null, slot_valid, listed_at}
 use Rattle.reading.proofs.slots.list_slot.Goals as goal

@@ -1,8 +1,8 @@
-use Rattle.std.proofs.Common.{◌≡◌, ℕ, ◌+◌, ◌*◌, List, map, ℤ, sym, refl, ap, ◌∙◌, subst, rules}
+use Rattle.std.proofs.Common.{◌+◌, ◌*◌, map, ℤ, refl, ap, subst}
 use Rattle.std.proofs.lemmas.List.{map-id}
 use Rattle.table.specs.declared.node.Kind.{Kind}
-use Rattle.reading.specs.Slots.{Span, listed, viewed, within, slot_by, slot_at, span_at, SpansIn, inside}
-use Rattle.reading.proofs.Places.{slot_in, slot_there, slot_as}
+use Rattle.reading.specs.Slots.{listed, viewed, within, SpansIn, inside}
+use Rattle.reading.proofs.Places.{slot_in, slot_as}
 use Rattle.reading.proofs.slots.slot_of.Goals as goal
 
 pub slot-requires : goal.slot-requires

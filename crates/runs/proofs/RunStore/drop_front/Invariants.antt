@@ -1,4 +1,4 @@
-use Rattle.std.proofs.Common.{◌≡◌, ◌++◌, length, take, drop}
+use Rattle.std.proofs.Common.{◌≡◌, ◌++◌, take, drop}
 use Rattle.runs.specs.Kept.{records, run_most}
 use Rattle.runs.proofs.RunStore.drop_front.Given as goal
 

@@ -1,4 +1,4 @@
-use Rattle.std.proofs.Common.{◌≡◌, sym, refl}
+use Rattle.std.proofs.Common.{sym, refl}
 use Rattle.table.specs.Buffers.{node_held}
 use Rattle.table.proofs.Counts.{each_more}
 use Rattle.table.proofs.Shapes.{shape_ok, holds_rising, bad_buffers}

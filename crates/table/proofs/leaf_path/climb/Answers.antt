@@ -1,4 +1,4 @@
-use Rattle.std.proofs.Common.{◌≡◌, ℕ, ◌-◌, List, ◌++◌, set, replicate, sym, ap, ◌∙◌, subst, arith}
+use Rattle.std.proofs.Common.{◌-◌, List, ◌++◌, set, replicate, sym, ap, ◌∙◌, subst, arith}
 use Rattle.table.specs.declared.leaf_path.PathNode.{PathNode}
 use Rattle.table.specs.Table.{parent_of}
 use Rattle.table.specs.Paths.{nodes_to, no_path_node}

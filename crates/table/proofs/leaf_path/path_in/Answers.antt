@@ -1,5 +1,5 @@
 use Rattle.std.proofs.Common.{arith}
-use Rattle.table.proofs.Leaves.{LeafOf, leaf_of, front_short, front_fits, front_length, led}
+use Rattle.table.proofs.Leaves.{leaf_of, front_short, front_fits, front_length, led}
 use Rattle.table.proofs.leaf_path.path_in.Goals as goal
 
 pub depth-count-requires : goal.depth-count-requires

@@ -1,4 +1,4 @@
-use Rattle.std.proofs.Common.{◌≡◌, eqb, sym, ◌∙◌, arith}
+use Rattle.std.proofs.Common.{eqb, ◌∙◌, arith}
 use Rattle.std.proofs.lemmas.Bool.{eq-eqb, ne_eqb}
 use Rattle.table.specs.Table.{parent_of}
 use Rattle.table.proofs.Counts.{many_taken, many_left}

@@ -1,4 +1,4 @@
-use Rattle.std.proofs.Common.{◌≡◌, ◌+◌, length, sym, refl, ap, ◌∙◌, arith}
+use Rattle.std.proofs.Common.{◌≡◌, ◌+◌, length, ap, arith}
 use Rattle.table.specs.Table.{line}
 use Rattle.table.proofs.Lines.{depth_more, line_root}
 use Rattle.table.proofs.rules.depth.Goals as goal

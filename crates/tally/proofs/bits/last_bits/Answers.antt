@@ -1,7 +1,6 @@
-use Rattle.std.proofs.Common.{◌≡◌, ℕ, ◌+◌, ◌-◌, ◌*◌, ◌^◌, ◌<◌, ◌≤◌, sym, ap, ◌∙◌, arith}
+use Rattle.std.proofs.Common.{◌+◌, ◌-◌, sym, ap, arith}
 use Rattle.rows.specs.Rows.{one}
 use Rattle.reading.specs.Bits.{bit}
-use Rattle.tally.specs.Packed.{packed}
 use Rattle.tally.proofs.Packing.{packed_zero, packed_front, packed_small}
 use Rattle.tally.proofs.bits.last_bits.Goals as goal
 

@@ -1,4 +1,4 @@
-use Rattle.std.proofs.Common.{◌≡◌, ℕ, ◌+◌, ◌-◌, ◌^◌, ◌<◌, ◌≤◌, Bool, true, false, sym, refl, ap, ◌∙◌, subst, ap₂, arith}
+use Rattle.std.proofs.Common.{◌≡◌, ℕ, ◌-◌, ◌^◌, ◌<◌, Bool, true, false, ◌∙◌, ap₂, arith}
 use Rattle.reading.specs.Bits.{valid_in}
 use Rattle.tally.specs.Packed.{packed}
 use Rattle.tally.proofs.Packing.{packed_lt, packed_not}

@@ -1,4 +1,4 @@
-use Rattle.std.proofs.Common.{◌≡◌, ℕ, ◌+◌, ◌-◌, ◌*◌, ◌/◌, ◌%◌, ◌^◌, drop, Some, sym, refl, ap, ◌∙◌, ap₂, arith}
+use Rattle.std.proofs.Common.{ℕ, ◌+◌, ◌*◌, ◌/◌, ◌%◌, ◌^◌, drop, sym, ap, ◌∙◌, ap₂}
 use lib.Bits.{bit_and, and_mask}
 use Rattle.std.proofs.lemmas.List.{take_rest}
 use Rattle.reading.specs.Bits.{bit, valid_in}

@@ -1,7 +1,6 @@
-use Rattle.std.proofs.Common.{◌≡◌, ℕ, ◌+◌, ◌-◌, ◌<◌, ◌≤◌, true, drop, sym, refl, ap, ◌∙◌, subst, arith}
+use Rattle.std.proofs.Common.{◌<◌, ◌≤◌, true, drop, sym, refl, arith}
 use lib.Count.{ones}
 use Rattle.reading.specs.Slots.{inside, along}
-use Rattle.reading.specs.Reading.{node_on}
 use Rattle.tally.specs.Reaching.{Holding}
 use Rattle.tally.proofs.Packing.{packed_all}
 use Rattle.tally.proofs.Holds.{held-few, flat_on}

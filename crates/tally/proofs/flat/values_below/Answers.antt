@@ -1,4 +1,4 @@
-use Rattle.std.proofs.Common.{◌≡◌, ℕ, ◌+◌, ◌<◌, ◌≤◌, Bool, true, false, not, ◌⊎◌, length, Some, sym, refl, subst, inl, inr, arith}
+use Rattle.std.proofs.Common.{◌≡◌, ◌+◌, ◌<◌, ◌≤◌, Bool, true, false, not, ◌⊎◌, length, Some, sym, refl, subst, inl, inr, arith}
 use lib.Bits.{bit_and}
 use Rattle.reading.specs.Slots.{inside, along}
 use Rattle.reading.specs.Reading.{node_on}

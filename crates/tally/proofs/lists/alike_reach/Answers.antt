@@ -1,4 +1,4 @@
-use Rattle.std.proofs.Common.{◌≡◌, sym}
+use Rattle.std.proofs.Common.{sym}
 use Rattle.reading.specs.Slots.{inside, along}
 use Rattle.tally.proofs.Ranges.{nulls}
 use Rattle.tally.proofs.lists.alike_reach.Goals as goal

@@ -1,7 +1,6 @@
-use Rattle.std.proofs.Common.{◌≡◌, ℕ, ◌+◌, ◌-◌, ◌<◌, ◌≤◌, length, Some, sym, refl, ap, ◌∙◌, subst, arith}
+use Rattle.std.proofs.Common.{◌+◌, ◌-◌, ◌<◌, ◌≤◌, length, arith}
 use Rattle.reading.specs.Slots.{inside, along}
-use Rattle.reading.specs.Reading.{node_on}
-use Rattle.tally.specs.Sizes.{◌plus◌, sizes}
+use Rattle.tally.specs.Sizes.{sizes}
 use Rattle.tally.proofs.Following.{restated, null_more, empty_more, stop_fits, first_more, next_more}
 use Rattle.tally.proofs.lists.following_reach.Goals as goal
 use Rattle.tally.proofs.lists.following_reach.Goals.{in-Null+then-n, in-Empty, in-Spanned+then-first-last, in-Spanned+else-first-last+else-start-last}

@@ -1,4 +1,4 @@
-use Rattle.std.proofs.Common.{◌≡◌, ℕ, ◌+◌, ◌-◌, ◌<◌, ◌≤◌, Bool, true, false, T, List, map, get_or, ℤ, pos, nat_abs, sym, refl, ap, ◌∙◌, subst, ap₂, arith, w64, Fits, SFits, to_z, of_z, rules, eq-eqb, ne_eqb}
+use Rattle.std.proofs.Common.{◌≡◌, ◌+◌, ◌-◌, ◌<◌, ◌≤◌, true, T, List, map, get_or, ℤ, pos, nat_abs, sym, refl, ap, ◌∙◌, subst, ap₂, arith, w64, Fits, SFits, to_z, of_z, rules, eq-eqb, ne_eqb}
 use lib.Signed.{lt_z, le_z, non_neg, mag}
 use Rattle.std.proofs.lemmas.Int.{to_z-of_z, of_z-to_z}
 use Rattle.rows.specs.Rows.{one}

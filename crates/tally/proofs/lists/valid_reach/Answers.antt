@@ -1,5 +1,4 @@
-use Rattle.std.proofs.Common.{◌≡◌, ℕ, ◌+◌, ◌*◌, ◌^◌, ◌<◌, ◌≤◌, subst, mul-le-mul_right, arith}
-use Rattle.table.specs.declared.node.Kind.{Kind}
+use Rattle.std.proofs.Common.{◌+◌, ◌*◌, ◌^◌, ◌<◌, ◌≤◌, subst, mul-le-mul_right, arith}
 use Rattle.reading.specs.Slots.{inside, along, SpansIn}
 use Rattle.reading.specs.Reading.{node_on}
 use Rattle.tally.proofs.Ranges.{structs, narrow_lists, wide_lists, sized}

@@ -1,10 +1,10 @@
-use Rattle.std.proofs.Common.{◌≡◌, ℕ, ◌+◌, ◌≤◌, Bool, true, false, List, Some, Ok, sym, ap, ◌∙◌, subst, arith}
+use Rattle.std.proofs.Common.{◌≡◌, Some, Ok, sym, ap, ◌∙◌, subst, arith}
 use Rattle.std.proofs.lemmas.Bool.{both_ways}
 use Rattle.table.specs.declared.node.Kind.{Kind}
-use Rattle.reading.specs.Slots.{Buffers, inside, along}
+use Rattle.reading.specs.Slots.{inside, along}
 use Rattle.reading.specs.Reading.{node_on}
 use Rattle.reading.specs.Trace.{stopped}
-use Rattle.walk.specs.Walk.{ChainRun, stretch_of}
+use Rattle.walk.specs.Walk.{ChainRun}
 use Rattle.walk.proofs.AtNode.{over_low, struct_below}
 use Rattle.walk.proofs.Stretches.{chain_null, chain_stop, chain_leaf, chain_struct}
 use Rattle.walk.proofs.runs.chain_run.Goals as goal

@@ -1,4 +1,4 @@
-use Rattle.std.proofs.Common.{◌≡◌, ℕ, ◌+◌, ◌-◌, ◌*◌, ◌<◌, ◌≤◌, length}
+use Rattle.std.proofs.Common.{◌≡◌, ℕ, ◌-◌, ◌*◌, ◌<◌, ◌≤◌, length}
 use Rattle.reading.specs.Slots.{inside, along}
 use Rattle.reading.specs.Reading.{node_on}
 use Rattle.walk.specs.Walk.{visit_trace, visit_of}

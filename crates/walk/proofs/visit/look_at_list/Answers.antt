@@ -1,11 +1,9 @@
-use Rattle.std.proofs.Common.{◌≡◌, ℕ, ◌+◌, ◌-◌, ◌<◌, ◌≤◌, Bool, true, false, List, length, drop, Some, None, sym, refl, ap, ◌∙◌, subst, arith}
-use Rattle.table.specs.declared.node.Kind.{Kind}
-use Rattle.table.specs.declared.leaf_path.PathNode.{PathNode}
+use Rattle.std.proofs.Common.{◌+◌, ◌-◌, ◌<◌, drop, Some, None, sym, ap, ◌∙◌, arith}
 use Rattle.reading.specs.declared.slot.Slot.{Slot}
-use Rattle.reading.specs.Slots.{Buffers, valid, span_at, inside, along}
+use Rattle.reading.specs.Slots.{span_at, inside, along}
 use Rattle.reading.specs.Reading.{node_on}
-use Rattle.reading.specs.Trace.{stopped, trace_at, spread_trace}
-use Rattle.walk.proofs.AtNode.{at_null, at_stop, at_leaf, at_struct, at_list, list_below, struct_below, over_low, slot_is, span_fits_at, span_ends, spread_more}
+use Rattle.reading.specs.Trace.{stopped, trace_at}
+use Rattle.walk.proofs.AtNode.{at_null, at_stop, at_list, list_below, over_low, slot_is, span_fits_at, span_ends, spread_more}
 use Rattle.walk.proofs.visit.look_at_list.Goals as goal
 
 pub returns-then-n : goal.returns-then-n

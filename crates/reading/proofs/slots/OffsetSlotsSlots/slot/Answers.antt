@@ -1,5 +1,5 @@
-use Rattle.std.proofs.Common.{◌≡◌, ℕ, ◌+◌, ◌*◌, map, sym, ◌∙◌}
-use Rattle.reading.specs.Slots.{Span, listed, viewed, within}
+use Rattle.std.proofs.Common.{ℕ, ◌+◌, map, sym, ◌∙◌}
+use Rattle.reading.specs.Slots.{Span, listed}
 use Rattle.reading.proofs.Places.{slot_place, slot_there}
 use Rattle.reading.proofs.slots.OffsetSlotsSlots.slot.Goals as goal
 

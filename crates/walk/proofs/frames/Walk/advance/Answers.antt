@@ -1,4 +1,4 @@
-use Rattle.std.proofs.Common.{◌≡◌, ◌+◌, ◌-◌, set, Some, sym, refl, subst, arith}
+use Rattle.std.proofs.Common.{◌-◌, set, Some, sym, refl, subst, arith}
 use Rattle.reading.specs.Slots.{inside, along}
 use Rattle.walk.specs.Walk.{Advanced, top}
 use Rattle.walk.proofs.Stack.{advance_frame, advance_row}

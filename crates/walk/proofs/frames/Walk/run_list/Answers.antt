@@ -1,4 +1,4 @@
-use Rattle.std.proofs.Common.{◌≡◌, ℕ, ◌+◌, ◌-◌, List, set, Some, Ok, Option, sym, subst, arith}
+use Rattle.std.proofs.Common.{◌≡◌, ℕ, ◌-◌, List, set, Some, Ok, Option, sym, subst, arith}
 use Rattle.table.specs.declared.leaf_path.PathNode.{PathNode}
 use Rattle.walk.specs.declared.frames.Frame.{Frame}
 use Rattle.walk.specs.declared.frames.Stretch.{Stretch}

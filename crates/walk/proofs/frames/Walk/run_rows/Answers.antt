@@ -1,9 +1,9 @@
-use Rattle.std.proofs.Common.{◌≡◌, ℕ, List, Some, Ok, Option, subst, arith}
+use Rattle.std.proofs.Common.{◌≡◌, ℕ, List, Some, Ok, Option, subst}
 use Rattle.table.specs.declared.leaf_path.PathNode.{PathNode}
 use Rattle.walk.specs.declared.frames.Frame.{Frame}
 use Rattle.walk.specs.declared.frames.Stretch.{Stretch}
 use Rattle.reading.specs.Slots.{Buffers, inside, along}
-use Rattle.walk.specs.Walk.{ChainRun, top}
+use Rattle.walk.specs.Walk.{ChainRun}
 use Rattle.walk.proofs.Stretches.{rows_stop, rows_go}
 use Rattle.walk.proofs.frames.Walk.run_rows.Goals as goal
 

@@ -1,4 +1,4 @@
-use Rattle.std.proofs.Common.{◌≡◌, sym, refl, ◌∙◌, arith}
+use Rattle.std.proofs.Common.{◌∙◌}
 use Rattle.reading.specs.Slots.{inside, along}
 use Rattle.walk.proofs.Stack.{advance_pop}
 use Rattle.walk.proofs.frames.Walk.settle.Goals as goal
