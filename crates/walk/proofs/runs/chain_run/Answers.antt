@@ -27,7 +27,7 @@ returns-then-not-there c =
     let ns = along c.args.b in
     let n = node_on ns c.down.node in
     let run = c.same_from-count.ensures in
-    chain_stop b ns c.args.own c.args.x c.down.node c.down.def c.down.end c.same_from-count.result c.down.invariant.0 c.down.invariant.1 c.down.invariant.2 c.down.invariant.5 run (sym c.if-not-there.ensures) c.if-n.false c.args.row ∙ ap stopped (sym c.null_fault.ensures)
+    chain_stop b ns c.args.own c.args.x c.down.node c.down.def c.down.end c.same_from-count.result c.down.invariant.0 c.down.invariant.1 c.down.invariant.2 c.down.invariant.5 run (sym c.if-not-there.ensures) c.if-n.false c.args.row ∙ cc
 
 pub returns-then-last : goal.returns-then-last
 returns-then-last c =
