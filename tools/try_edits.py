@@ -3,7 +3,7 @@
 
 usage: try_edits.py COPY CRATE EDIT..
 
-COPY is a copy of the repository that may be changed (with its target/, so that each try takes seconds and not minutes);
+COPY is a copy of the repository that may be changed (with what checks left in its out/ folders, so that each try takes seconds and not minutes);
 an EDIT is a file of three lines, `file: PATH`, `old: TEXT`, `new: TEXT`, as in crates/CRATE/must-fail.
 The gate tries those in must-fail/ from nothing; tools/edits has more of the same kind.
 """
@@ -18,7 +18,7 @@ def parts(path):
 
 def refused(copy, crate):
     """The first function that is no longer proved, or None where all still are."""
-    out = subprocess.run(["rt", "dev", crate], cwd=copy, capture_output=True, text=True).stdout.split("\n")
+    out = subprocess.run(["rt", "check"], cwd="%s/crates/%s" % (copy, crate), capture_output=True, text=True).stdout.split("\n")
     left = [line for line in out if line.startswith("fn ") and not line.endswith(": proved")]
     if any(line.startswith("logic=proved") for line in out[-3:]):
         return None
