@@ -9,6 +9,7 @@ use statement::{Action, Statement};
 use std::alloc::AllocError;
 use std::fs::File;
 use std::io::{BufRead, BufReader, BufWriter, Read, Stdout, Write};
+use std::process::ExitCode;
 use std::str::from_utf8;
 use std::{env, io};
 use table::Refusal;
@@ -174,20 +175,21 @@ fn text_up_to(bytes: &[u8], end: usize) -> &str {
     }
 }
 
-fn main(rt: HostRuntime) -> Result<(), io::Error> {
+// A mistake in a job has been told by the time that it ends: `main` says no more of it.
+fn main(rt: HostRuntime) -> Result<ExitCode, io::Error> {
     let mut job = Job {
         table: Table::new(rt.alloc()),
         out: BufWriter::new(rt.alloc(), rt.stdout())?,
     };
     match job.inputs(&rt) {
-        Ok(()) => Ok(()),
+        Ok(()) => Ok(ExitCode::SUCCESS),
         Err(Stop::Line(fault)) => {
             eprintln!(rt; "{fault}")?;
-            Err(io::Error::from(io::ErrorKind::InvalidData))
+            Ok(ExitCode::FAILURE)
         }
         Err(Stop::Io(e)) => {
             eprintln!(rt; "{e}")?;
-            Err(e)
+            Ok(ExitCode::FAILURE)
         }
     }
 }
