@@ -1,10 +1,11 @@
 -- A leaf of a table that meets the rules.
-use Rattle.std.proofs.Common.{◌≡◌, ℕ, zero, suc, ◌+◌, ◌-◌, ◌<◌, ◌≤◌, true, cond, ◌&&◌, eqb, ltb, leb, List, [], ◌∷◌, ◌++◌, length, get_or, take, replicate, Ok, Err, sym, ap, ◌∙◌, arith, length-append}
+use Rattle.std.proofs.Common.{◌≡◌, ℕ, zero, suc, ◌+◌, ◌-◌, ◌<◌, ◌≤◌, Bool, true, false, cond, ◌&&◌, eqb, ltb, leb, List, [], ◌∷◌, ◌++◌, length, get_or, take, drop, replicate, None, Option, Ok, Err, sym, refl, ap, ◌∙◌, arith}
 use Rattle.std.specs.List.{AllByRecursion as All}
 use Rattle.std.proofs.ByRecursion.{All-append, All-weaker, All-get_or}
-use Rattle.std.proofs.lemmas.List.{take_at, length-map}
+use Rattle.std.proofs.lemmas.List.{take_at, drop-replicate, length-map}
 use Rattle.std.proofs.lemmas.Bool.{and_parts, and_from, cond-true, cond_both, leb-true, lt-ltb, eq-eqb, eqb-false}
 use Rattle.table.specs.declared.node.Node.{Node}
+use Rattle.table.specs.declared.node.Kind.{Kind}
 use Rattle.table.specs.declared.refusal.Refusal.{Refusal}
 use Rattle.table.specs.declared.leaf_path.PathNode.{PathNode}
 use Rattle.table.specs.declared.leaf_path.LeafPath.{LeafPath}
@@ -55,15 +56,27 @@ leaf_of ns i h l z =
       short = short_if (node_at ns i).kind (node_at ns i).size (children ns i) (length (line ns i)) z f.1;
     }
 
+-- a node made by default is what stands in the places that a path does not fill
+pub blank_is : (n : PathNode) →
+    (n.number ≡ 0) × ((n.kind ≡ Kind.Leaf) × ((n.nullable ≡ false) × ((n.slots ≡ 0) × ((n.size ≡ 0) × ((n.validity ≡ None) × ((n.offsets ≡ 0) × (n.sizes ≡ 0))))))) → n ≡ no_path_node
+blank_is n e =
+    same n.number n.kind n.nullable n.slots n.size n.validity n.offsets n.sizes e.0 e.1.0 e.1.1.0 e.1.1.1.0 e.1.1.1.1.0 e.1.1.1.1.1.0 e.1.1.1.1.1.1.0 e.1.1.1.1.1.1.1
+  where
+    same : (a : ℕ) (k : Kind) (b : Bool) (d f : ℕ) (o : Option ℕ) (g h : ℕ) → a ≡ 0 → k ≡ Kind.Leaf → b ≡ false → d ≡ 0 → f ≡ 0 → o ≡ None → g ≡ 0 → h ≡ 0 →
+        record { number = a; kind = k; nullable = b; slots = d; size = f; validity = o; offsets = g; sizes = h } ≡ no_path_node
+    same a k b d f o g h p q r s t u v w = rw (p, q, r, s, t, u, v, w) refl
+
+-- the places behind a path keep what stood there
+pub filled : (ns : List Node) (i count : ℕ) (blank : PathNode) → blank ≡ no_path_node → (nodes : List PathNode) → nodes ≡ nodes_to ns i ++ drop count (replicate 8 blank) →
+    nodes ≡ nodes_to ns i ++ replicate (8 - count) no_path_node
+filled ns i count blank b nodes e = e ∙ ap (λ xs. nodes_to ns i ++ xs) (ap (λ x. drop count (replicate 8 x)) b ∙ drop-replicate count 8 no_path_node)
+
 module _ (ns : List Node) (i : ℕ) (h : LeafOf ns i) (count : ℕ) (nodes : List PathNode) (c : count ≡ length (line ns i)) (e : nodes ≡ nodes_to ns i ++ replicate (8 - count) no_path_node) where
   long : count ≡ length (nodes_to ns i)
   long = c ∙ sym (length-map (line ns i) (path_node ns))
 
   pub front : take count nodes ≡ nodes_to ns i
   front = ap (take count) e ∙ take_at (nodes_to ns i) (replicate (8 - count) no_path_node) count (sym long)
-
-  pub front_fits : count ≤ length nodes
-  front_fits = let f = ap length e ∙ length-append (nodes_to ns i) (replicate (8 - count) no_path_node) in let l = long in omega arith
 
   pub front_length : count ≡ length (take count nodes)
   front_length = long ∙ ap length (sym front)

@@ -7,3 +7,4 @@ pub mod Laws
 pub mod Small
 pub mod Ancestors
 pub mod Unused
+pub mod Upward

@@ -1,6 +1,7 @@
 -- How the path to a leaf is written down, and its levels counted.
-use Rattle.std.proofs.Common.{◌≡◌, ℕ, zero, suc, ◌+◌, ◌-◌, ◌*◌, ◌<◌, ◌≤◌, Bool, true, false, cond, eqb, List, [], ◌∷◌, ◌++◌, map, length, get_or, drop, set, replicate, Some, None, Option, sym, refl, ap, ◌∙◌, arith}
-use Rattle.std.proofs.lemmas.List.{append_assoc, map-append, length_push, drop-set, drop_more, drop_all, drop-replicate, length-set}
+use Rattle.std.proofs.Common.{◌≡◌, ℕ, zero, suc, ◌+◌, ◌-◌, ◌*◌, ◌<◌, ◌≤◌, Bool, true, false, cond, eqb, List, [], ◌∷◌, ◌++◌, map, length, get_or, drop, set, Some, None, Option, sym, refl, ap, ◌∙◌, arith}
+use Rattle.std.proofs.lemmas.List.{append_assoc, map-append, length_push, length-map, set-append_right, drop-set, drop_more, drop_all}
+use Rattle.std.specs.Int.{from_bool}
 use Rattle.rows.specs.Rows.{Path, leaf, struct, list, over, most, deep}
 use Rattle.table.specs.declared.node.Node.{Node}
 use Rattle.table.specs.declared.node.Kind.{Kind}
@@ -9,15 +10,7 @@ use Rattle.table.specs.Table.{line, way, parent_of, Rising}
 use Rattle.table.specs.Paths.{step_of, above, path, path_node, no_path_node, nodes_to}
 use Rattle.table.proofs.Lines.{line_root, line_step, fewer}
 
--- the nodes from place k on are written, and node at comes next
-pub record Climbing (ns : List Node) (from : ℕ) (whole : List PathNode) (at k : ℕ) (written : List PathNode) : Type 0 where
-  pub behind : at ≤ from
-  pub long : length written ≡ 8
-  pub rest : k ≡ length (line ns at)
-  pub some : 1 ≤ k
-  pub short : k ≤ 8
-  pub whole_is : whole ≡ nodes_to ns at ++ drop k written
-
+-- a node has a line of one node at least
 pub way-some : (ns : List Node) (i k : ℕ) → 0 < k → 1 ≤ length (way ns k i)
 way-some ns i zero p = absurd (omega arith)
 way-some ns i (suc k) p = omega (arith, length_push (cond (eqb i 0) [] (way ns k (parent_of ns i))) i)
@@ -25,52 +18,31 @@ way-some ns i (suc k) p = omega (arith, length_push (cond (eqb i 0) [] (way ns k
 pub line-some : (ns : List Node) (i : ℕ) → 0 < length ns → 1 ≤ length (line ns i)
 line-some ns i p = way-some ns i (length ns) p
 
-module _ (ns : List Node) (from : ℕ) (within : from < length ns) (rising : Rising ns (from + 1)) (whole : List PathNode) where
-  pub climbing_end : (at k : ℕ) (written : List PathNode) → Climbing ns from whole at k written → at ≡ 0 → set written (k - 1) (path_node ns at) ≡ whole
-  climbing_end at k written h e =
-      let r : line ns at ≡ 0 ∷ [] = rw e (line_root ns (omega arith)) in
-      let s : k ≡ 1 = h.rest ∙ ap length r in
-      let g = h.long in
-      let z : k - 1 ≡ 0 = omega arith in
-      ap (λ m. set written m (path_node ns at)) z ∙ ap (λ i. set written 0 (path_node ns i)) e ∙ drop-set written 0 (path_node ns 0) (omega arith)
-      ∙ sym (h.whole_is ∙ ap (λ w. map (path_node ns) w ++ drop k written) r ∙ ap (λ m. path_node ns 0 ∷ drop m written) s)
+-- one node up
+pub up_is : (ns : List Node) (n i : ℕ) → i < n → n ≤ length ns → Rising ns n → 0 < i → (parent_of ns i < i) × (length (line ns i) ≡ length (line ns (parent_of ns i)) + 1)
+up_is ns n i l m r p =
+    (r i p l, ap length (line_step ns i (omega arith) p (fewer ns n (i + 1) (omega arith) r)) ∙ length_push (line ns (parent_of ns i)) i)
 
-  pub climbing_more : (at k : ℕ) (written : List PathNode) → Climbing ns from whole at k written → 0 < at →
-      Climbing ns from whole (parent_of ns at) (k - 1) (set written (k - 1) (path_node ns at))
-  climbing_more at k written h p =
-      let l : parent_of ns at < at = rising at p (let b = h.behind in omega arith) in
-      let b = h.behind in
-      let s = line_step ns at (omega arith) p (fewer ns (from + 1) (at + 1) (omega arith) rising) in
-      let n = ap length s ∙ length_push (line ns (parent_of ns at)) at in
-      let one = line-some ns (parent_of ns at) (omega arith) in
-      let r = h.rest in
-      let g = h.long in
-      let t = h.short in
-      let q : k - 1 + 1 ≡ k = omega arith in
-      let x : PathNode = path_node ns at in
-      let d : drop (k - 1) (set written (k - 1) x) ≡ x ∷ drop (k - 1 + 1) written = drop-set written (k - 1) x (omega arith) in
-      let m : nodes_to ns at ≡ nodes_to ns (parent_of ns at) ++ x ∷ [] = ap (map (path_node ns)) s ∙ map-append (path_node ns) (line ns (parent_of ns at)) (at ∷ []) in
-      record {
-        behind = omega arith;
-        long = length-set written (k - 1) x ∙ g;
-        rest = omega arith;
-        some = omega arith;
-        short = omega arith;
-        whole_is = h.whole_is ∙ ap (λ w. w ++ drop k written) m ∙ append_assoc (nodes_to ns (parent_of ns at)) (x ∷ []) (drop k written)
-            ∙ ap (λ w. nodes_to ns (parent_of ns at) ++ w) (ap (λ m. x ∷ drop m written) (sym q) ∙ sym d);
-      }
+-- the root is written first
+pub led_root : (ns : List Node) → 0 < length ns → (old : List PathNode) → 0 < length old → set old 0 (path_node ns 0) ≡ nodes_to ns 0 ++ drop 1 old
+led_root ns p old q = drop-set old 0 (path_node ns 0) q ∙ ap (λ w. map (path_node ns) w ++ drop 1 old) (sym (line_root ns p))
 
-pub climbing_start : (ns : List Node) (from count : ℕ) → count ≡ length (line ns from) → 1 ≤ count → count ≤ 8 →
-    Climbing ns from (nodes_to ns from ++ replicate (8 - count) no_path_node) from count (replicate 8 no_path_node)
-climbing_start ns from count e p q =
-    record {
-      behind = omega arith;
-      long = refl;
-      rest = e;
-      some = p;
-      short = q;
-      whole_is = ap (λ w. nodes_to ns from ++ w) (sym (drop-replicate count 8 no_path_node));
-    }
+-- and a node behind the nodes that lead to its parent
+pub led_more : (ns : List Node) (n i : ℕ) → i < n → n ≤ length ns → Rising ns n → 0 < i → (old written : List PathNode) (d : ℕ) → d ≡ length (line ns (parent_of ns i)) →
+    d < length old → written ≡ nodes_to ns (parent_of ns i) ++ drop d old →
+    (set written d (path_node ns i) ≡ nodes_to ns i ++ drop (d + 1) old) × (d + 1 ≡ length (line ns i))
+led_more ns n i l m r p old written d e q w =
+    let s = line_step ns i (omega arith) p (fewer ns n (i + 1) (omega arith) r) in
+    let x : PathNode = path_node ns i in
+    let up = nodes_to ns (parent_of ns i) in
+    let long : length up ≡ d = length-map (line ns (parent_of ns i)) (path_node ns) ∙ sym e in
+    let here : nodes_to ns i ≡ up ++ x ∷ [] = ap (map (path_node ns)) s ∙ map-append (path_node ns) (line ns (parent_of ns i)) (i ∷ []) in
+    let put : set (drop d old) 0 x ≡ x ∷ drop (d + 1) old = ap (λ xs. set xs 0 x) (drop_more old d no_path_node q) in
+    let zero_is : d - d ≡ 0 = omega arith in (
+      ap (λ xs. set xs d x) w ∙ set-append_right up (drop d old) d d x long (omega arith) ∙ ap (λ k. up ++ set (drop d old) k x) zero_is ∙ ap (λ xs. up ++ xs) put
+          ∙ sym (ap (λ xs. xs ++ drop (d + 1) old) here ∙ append_assoc up (x ∷ []) (drop (d + 1) old)),
+      (let f = ap length s ∙ length_push (line ns (parent_of ns i)) i in omega arith),
+    )
 
 -- the levels of the first i nodes of a path are counted
 pub record Counting (nodes : List PathNode) (i definition repetition : ℕ) : Type 0 where
@@ -78,6 +50,11 @@ pub record Counting (nodes : List PathNode) (i definition repetition : ℕ) : Ty
   pub few : repetition ≤ i
   pub most_is : most (path nodes) 0 ≡ most (path (drop i nodes)) definition
   pub deep_is : deep (path nodes) 0 ≡ deep (path (drop i nodes)) repetition
+
+-- a level is raised by a nullable step's one
+pub over_is : (b : Bool) (d : ℕ) → d + from_bool b ≡ over b d
+over_is true d = refl
+over_is false d = omega arith
 
 pub over_low : (b : Bool) (d : ℕ) → over b d ≤ d + 1
 over_low true d = omega arith

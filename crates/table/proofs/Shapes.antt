@@ -1,20 +1,23 @@
 -- Tables that meet the rules, and tables that have a node against them.
-use Rattle.std.proofs.Common.{◌≡◌, ℕ, zero, suc, ◌<◌, true, false, cond, List, length, Ok, Err, Result, sym, ◌∙◌, inl, inr, add-one, arith}
-use Rattle.std.proofs.lemmas.Bool.{and_right, and_parts, cond-false, cond-true, cases_lt, cases_Bool, both_ways}
+use Rattle.std.proofs.Common.{◌≡◌, ℕ, zero, suc, ◌<◌, true, false, cond, List, length, Ok, Err, sym, ◌∙◌, inl, inr, add-one, arith}
+use Rattle.std.proofs.lemmas.Bool.{and_left, and_right, and_parts, cond-false, cond-true, cases_lt, both_ways}
 use Rattle.table.specs.declared.node.Node.{Node}
 use Rattle.table.specs.declared.refusal.Refusal.{Refusal}
 use Rattle.table.specs.declared.node.Source.{Source}
 use Rattle.table.specs.Kinds.{kind_of}
-use Rattle.table.specs.Table.{line, among, parent_of, children, node_at, few, each_below, placed, kind_fits, node_fits, table_holds, leaves, shape_answer, Rising}
+use Rattle.table.specs.Table.{line, among, parent_of, children, node_at, few, each_below, placed, kind_fits, node_fits, table_holds, leaves, Rising}
 use Rattle.table.specs.Buffers.{node_held, buffers_hold, survey_answer}
 use Rattle.table.proofs.Counts.{each_stop}
 use Rattle.table.proofs.Lines.{among_low}
 
-pub bad_node : (ns : List Node) (i : ℕ) → i < length ns → node_fits ns i ≡ false → Err Refusal.Table ≡ shape_answer ns
-bad_node ns i l e =
-    sym (cond-false (table_holds ns) (Ok (leaves ns)) (Err Refusal.Table) (and_right (few ns) (each_below (length ns) (node_fits ns)) (each_stop (node_fits ns) (length ns) i l e)))
+pub misfit : (ns : List Node) (i : ℕ) → i < length ns → node_fits ns i ≡ false → table_holds ns ≡ false
+misfit ns i l e = and_right (few ns) (each_below (length ns) (node_fits ns)) (each_stop (node_fits ns) (length ns) i l e)
 
-rising_more : (ns : List Node) (i : ℕ) → Rising ns i → placed ns i ≡ true → Rising ns (suc i)
+pub misplaced : (ns : List Node) (i : ℕ) → i < length ns → placed ns i ≡ false → table_holds ns ≡ false
+misplaced ns i l e = misfit ns i l (and_left (placed ns i) (kind_fits (kind_of (node_at ns i).kind) (node_at ns i).size (children ns i) (length (line ns i))) e)
+
+-- one node more that stands where it may
+pub rising_more : (ns : List Node) (i : ℕ) → Rising ns i → placed ns i ≡ true → Rising ns (suc i)
 rising_more ns i r e j p l =
     elim (cases_lt j i) [
       | inl k ↦ r j p k
@@ -38,21 +41,6 @@ rising_below ns (suc n) e =
 -- in a table that meets the rules each node but the root stands behind its parent
 pub holds_rising : (ns : List Node) → table_holds ns ≡ true → Rising ns (length ns)
 holds_rising ns e = rising_below ns (length ns) (and_parts (few ns) (each_below (length ns) (node_fits ns)) e).1
-
--- what an answer of shape says of the rules
-pub shape_ok : (ns : List Node) (n : ℕ) → Ok n ≡ shape_answer ns → (table_holds ns ≡ true) × (n ≡ leaves ns)
-shape_ok ns n e =
-    elim (cases_Bool (table_holds ns)) [
-      | inl h ↦ (let f : ◌≡◌ {A = Result ℕ Refusal} (Ok n) (Ok (leaves ns)) = e ∙ cond-true (table_holds ns) (Ok (leaves ns)) (Err Refusal.Table) h in (h, cc))
-      | inr h ↦ (let f : ◌≡◌ {A = Result ℕ Refusal} (Ok n) (Err Refusal.Table) = e ∙ cond-false (table_holds ns) (Ok (leaves ns)) (Err Refusal.Table) h in let z : ◌≡◌ {A = ℕ} 0 1 = cc in absurd (omega arith))
-    ]
-
-pub shape_err : (ns : List Node) (r : Refusal) → Err r ≡ shape_answer ns → (table_holds ns ≡ false) × (r ≡ Refusal.Table)
-shape_err ns r e =
-    elim (cases_Bool (table_holds ns)) [
-      | inl h ↦ (let f : ◌≡◌ {A = Result ℕ Refusal} (Err r) (Ok (leaves ns)) = e ∙ cond-true (table_holds ns) (Ok (leaves ns)) (Err Refusal.Table) h in let z : ◌≡◌ {A = ℕ} 0 1 = cc in absurd (omega arith))
-      | inr h ↦ (let f : ◌≡◌ {A = Result ℕ Refusal} (Err r) (Err Refusal.Table) = e ∙ cond-false (table_holds ns) (Ok (leaves ns)) (Err Refusal.Table) h in (h, cc))
-    ]
 
 pub bad_buffers : (s : Source) (i : ℕ) → table_holds s.nodes.now ≡ true → i < length s.nodes.now → false ≡ node_held s i → Err Refusal.Buffers ≡ survey_answer s
 bad_buffers s i h l e =

@@ -3,3 +3,4 @@ pub mod Table
 pub mod Buffers
 pub mod Paths
 pub mod Unread
+pub mod Upward

@@ -1,10 +1,10 @@
-ghost use Rattle.std.specs.Prelude.{◌≡◌, ◌<◌, length};
+ghost use Rattle.std.specs.Prelude.{◌≡◌, ◌<◌, true, length, Err, MatchResult};
 ghost use Rattle.table.specs.Table.{node_at, Rising};
-ghost use Rattle.table.specs.Buffers.{child_fits, reaches, validity_fits, offsets_fit, node_held, survey_answer};
+ghost use Rattle.table.specs.Buffers.{child_fits, reaches, validity_fits, offsets_fit, node_held, buffers_hold, survey_answer};
 
 use crate::node::{Kind, Node, Source};
 use crate::refusal::Refusal;
-use crate::rules::shape;
+use crate::rules::Table;
 
 fn is_long_enough(start: u64, need: u64, room: u128) -> bool
     ensures { result ≡ reaches start need room }
@@ -64,7 +64,7 @@ fn is_held(source: &Source, i: usize, node: Node) -> bool
     }
     if i > 0 {
         let up = source.nodes[node.parent as usize];
-        if !child_fits(Kind::of(up.kind), up, node) {
+        if !child_fits(Kind::try_from(up.kind).ok(), up, node) {
             return false;
         }
     }
@@ -72,22 +72,29 @@ fn is_held(source: &Source, i: usize, node: Node) -> bool
         return false;
     }
     offsets_fit(
-        Kind::of(node.kind),
+        Kind::try_from(node.kind).ok(),
         node,
         source.offsets32.len(),
         source.offsets64.len(),
     )
 }
 
-// How many leaves a source has, if it meets all rules.
-pub fn survey(source: &Source) -> Result<u32, Refusal>
-    ensures { result ≡ survey_answer source.now }
+// The table of a source, if the source meets all rules.
+pub(crate) fn surveyed<'a>(source: &Source<'a>) -> Result<Table<'a>, Refusal>
+    ensures { MatchResult result (λ table. (table.nodes.now ≡ source.now.nodes.now) × (buffers_hold source.now ≡ true)) (λ refusal. Err refusal ≡ survey_answer source.now) }
 {
-    let leaves = shape(source.nodes)?;
+    let table = Table::new(source.nodes)?;
     for (i, node) in source.nodes.iter().enumerate() {
         if !is_held(source, i, *node) {
             return Err(Refusal::Buffers);
         }
     }
-    Ok(leaves)
+    Ok(table)
+}
+
+// How many leaves a source has, if it meets all rules.
+pub fn survey(source: &Source) -> Result<u32, Refusal>
+    ensures { result ≡ survey_answer source.now }
+{
+    Ok(surveyed(source)?.leaves)
 }

@@ -1,15 +1,16 @@
-ghost use Rattle.std.specs.Prelude.{◌≡◌, ◌+◌, ◌-◌, ◌<◌, ◌≤◌, true, ◌++◌, length, replicate};
-ghost use Rattle.rows.specs.Rows.{over, most, deep};
-ghost use Rattle.table.specs.Table.{line, table_holds, Rising};
-ghost use Rattle.table.specs.Paths.{path_node, no_path_node, nodes_to, path as steps, leaf_answer, path_answer, locate_answer};
+ghost use Rattle.std.specs.Prelude.{◌≡◌, ◌<◌, ◌≤◌, ◌++◌, length, drop};
+ghost use Rattle.rows.specs.Rows.{most, deep};
+ghost use Rattle.table.specs.Table.{line};
+ghost use Rattle.table.specs.Paths.{path_node, nodes_to, path as steps, leaf_answer, path_answer, locate_answer};
 
-use crate::buffers::survey;
+use crate::buffers::surveyed;
 use crate::node::{Kind, Node, Source};
+use crate::order::Ordered;
 use crate::refusal::Refusal;
-use crate::rules::{depth, shape};
+use crate::rules::Table;
 
 // A node on the path to a leaf: its number in the table, its kind, and the numbers of its row there.
-#[derive(Clone, Copy, Drop)]
+#[derive(Clone, Copy, Default, Drop)]
 pub struct PathNode {
     pub number: usize,
     pub kind: Kind,
@@ -22,6 +23,7 @@ pub struct PathNode {
 }
 
 // The path from the root to a leaf: its nodes in the first `count` places, and the leaf's greatest levels.
+// An array with a count beside it: there is no heap here, and a fixed-capacity vector could not be `Copy`.
 #[derive(Clone, Copy, Drop)]
 pub struct LeafPath {
     pub nodes: [PathNode; 8],
@@ -30,78 +32,38 @@ pub struct LeafPath {
     pub repetition: u8,
 }
 
-fn unused() -> PathNode
-    ensures { result ≡ no_path_node }
-{
-    PathNode {
-        number: 0,
-        kind: Kind::Leaf,
-        nullable: false,
-        slots: 0,
-        size: 0,
-        validity: None,
-        offsets: 0,
-        sizes: 0,
-    }
-}
-
-fn widened(start: Option<u64>) -> Option<usize>
-    ensures { result ≡ start }
-{
-    match start {
-        None => None,
-        Some(start) => Some(start as usize),
-    }
-}
-
 // A node of a table as it stands on a path; a kind that is not known counts as a leaf.
 fn on_path(nodes: &[Node], i: usize) -> PathNode
     requires { i < length nodes.now }
     ensures { result ≡ path_node nodes.now i }
 {
     let node = nodes[i];
-    let kind = match Kind::of(node.kind) {
-        None => Kind::Leaf,
-        Some(kind) => kind,
-    };
     PathNode {
         number: i,
-        kind,
+        kind: Kind::try_from(node.kind).unwrap_or(Kind::Leaf),
         nullable: node.nullable,
         slots: node.slots as usize,
         size: node.size as usize,
-        validity: widened(node.validity),
+        validity: node.validity.map(|start| start as usize),
         offsets: node.offsets as usize,
         sizes: node.sizes as usize,
     }
 }
 
-// The nodes from the root to a node, in the first `count` places.
-fn climb(nodes: &[Node], from: usize, count: usize) -> [PathNode; 8]
-    requires within { from < length nodes.now }
-    requires rising { Rising nodes.now (from + 1) }
-    requires count { count ≡ length (line nodes.now from) }
-    requires short { count ≤ 8 }
-    ensures { result ≡ nodes_to nodes.now from ++ replicate (8 - count) no_path_node }
+// Writes the nodes from the root to a node into the first places, and answers how many they are.
+fn lead_to(ordered: Ordered, node: usize, path: &mut [PathNode; 8]) -> usize
+    requires within { node < ordered.count }
+    requires short { length (line ordered.nodes.now node) ≤ 8 }
+    ensures path { path.new ≡ nodes_to ordered.entry.nodes.now node ++ drop result path.old }
+    ensures count { result ≡ length (line ordered.entry.nodes.now node) }
 {
-    let mut path = [unused(); 8];
-    let mut at = from;
-    let mut k = count;
-    loop {
-        k -= 1;
-        path[k] = on_path(nodes, at);
-        if at == 0 {
-            return path;
-        }
-        at = nodes[at].parent as usize;
-    }
-}
-
-fn raised(nullable: bool, level: u8) -> u8
-    requires { level < 100 }
-    ensures { result ≡ over nullable level }
-{
-    if nullable { level + 1 } else { level }
+    let above = if node == 0 {
+        0
+    } else {
+        lead_to(ordered, ordered.nodes[node].parent as usize, path)
+    };
+    path[above] = on_path(ordered.nodes, node);
+    above + 1
 }
 
 // The greatest definition and repetition levels of a path.
@@ -113,7 +75,7 @@ fn greatest_levels(path: &[PathNode]) -> (u8, u8)
     let mut definition = 0;
     let mut repetition = 0;
     for node in path {
-        definition = raised(node.nullable, definition);
+        definition += u8::from(node.nullable);
         match node.kind {
             Kind::Leaf => return (definition, repetition),
             Kind::Struct => {}
@@ -127,18 +89,17 @@ fn greatest_levels(path: &[PathNode]) -> (u8, u8)
 }
 
 // The path to a leaf of a table that meets its rules.
-fn path_in(nodes: &[Node], leaf: usize) -> Result<LeafPath, Refusal>
-    requires { table_holds nodes.now ≡ true }
-    ensures { result ≡ leaf_answer nodes.now leaf }
+fn path_in(table: Table, leaf: usize) -> Result<LeafPath, Refusal>
+    ensures { result ≡ leaf_answer table.entry.nodes.now leaf }
 {
-    if leaf >= nodes.len() || nodes[leaf].kind != 0 {
+    if leaf >= table.nodes.len() || table.nodes[leaf].kind != 0 {
         return Err(Refusal::NotALeaf);
     }
-    let count = depth(nodes, leaf);
-    let path = climb(nodes, leaf, count);
-    let (definition, repetition) = greatest_levels(&path[..count]);
+    let mut nodes = [PathNode::default(); 8];
+    let count = lead_to(table.ordered(), leaf, &mut nodes);
+    let (definition, repetition) = greatest_levels(&nodes[..count]);
     Ok(LeafPath {
-        nodes: path,
+        nodes,
         count,
         definition,
         repetition,
@@ -149,14 +110,12 @@ fn path_in(nodes: &[Node], leaf: usize) -> Result<LeafPath, Refusal>
 pub fn path_to(nodes: &[Node], leaf: usize) -> Result<LeafPath, Refusal>
     ensures { result ≡ path_answer nodes.now leaf }
 {
-    shape(nodes)?;
-    path_in(nodes, leaf)
+    path_in(Table::new(nodes)?, leaf)
 }
 
 // The same of a source, if it meets all rules.
 pub fn locate(source: &Source, leaf: usize) -> Result<LeafPath, Refusal>
     ensures { result ≡ locate_answer source.now leaf }
 {
-    survey(source)?;
-    path_in(source.nodes, leaf)
+    path_in(surveyed(source)?, leaf)
 }

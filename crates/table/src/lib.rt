@@ -6,12 +6,13 @@ ghost use Rattle.table.specs.Unread.{NotRead, LinesAreAncestors};
 mod buffers;
 mod leaf_path;
 mod node;
+mod order;
 mod refusal;
 mod rules;
 
 pub use buffers::survey;
 pub use leaf_path::{LeafPath, PathNode, locate, path_to};
-pub use node::{Kind, Node, Source};
+pub use node::{Kind, Node, Source, UnknownKind};
 pub use refusal::{Cause, Fault, Refusal};
 pub use rules::shape;
 

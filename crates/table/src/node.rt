@@ -1,7 +1,11 @@
-ghost use Rattle.std.specs.Prelude.{◌≡◌};
-ghost use Rattle.table.specs.Kinds.{kind_of};
+ghost use Rattle.std.specs.Prelude.{Some};
+ghost use Rattle.table.specs.Kinds.{NumbersKind, kind_word};
+
+use std::error::Error;
+use std::fmt;
 
 // One node of a table, as it is given: plain numbers, none of them checked yet.
+// Kinds and parents stay numbers: `survey` has to be able to refuse a wrong one, which no enum could hold.
 #[derive(Clone, Copy, Drop)]
 pub struct Node {
     pub parent: u8,
@@ -23,8 +27,10 @@ pub struct Source<'a> {
     pub offsets64: &'a [i64],
 }
 
-#[derive(Clone, Copy, Drop)]
+// What a node is.
+#[derive(Clone, Copy, PartialEq, Eq, Debug, Default, Drop)]
 pub enum Kind {
+    #[default]
     Leaf,
     Struct,
     List,
@@ -34,20 +40,52 @@ pub enum Kind {
     LargeListView,
 }
 
-impl Kind {
-    // The kind that has a number.
-    pub fn of(number: u8) -> Option<Kind>
-        ensures { result ≡ kind_of number }
-    {
+// A number that no kind has.
+#[derive(Clone, Copy, PartialEq, Eq, Debug, Drop)]
+pub struct UnknownKind {
+    pub number: u8,
+}
+
+impl TryFrom<u8> for Kind {
+    type Error = UnknownKind;
+
+    ghost try_from_gives = { NumbersKind };
+
+    fn try_from(number: u8) -> Result<Kind, UnknownKind> {
         match number {
-            0 => Some(Kind::Leaf),
-            1 => Some(Kind::Struct),
-            2 => Some(Kind::List),
-            3 => Some(Kind::LargeList),
-            4 => Some(Kind::FixedSizeList),
-            5 => Some(Kind::ListView),
-            6 => Some(Kind::LargeListView),
-            _ => None,
+            0 => Ok(Kind::Leaf),
+            1 => Ok(Kind::Struct),
+            2 => Ok(Kind::List),
+            3 => Ok(Kind::LargeList),
+            4 => Ok(Kind::FixedSizeList),
+            5 => Ok(Kind::ListView),
+            6 => Ok(Kind::LargeListView),
+            _ => Err(UnknownKind { number }),
         }
     }
 }
+
+impl fmt::Display for Kind {
+    ghost output = { λ kind. Some (kind_word kind) };
+
+    fn fmt<W: fmt::Write>(&self, f: &mut fmt::Formatter<W>) -> fmt::Result {
+        f.write_str(match self {
+            Kind::Leaf => "leaf",
+            Kind::Struct => "struct",
+            Kind::List => "list",
+            Kind::LargeList => "large_list",
+            Kind::FixedSizeList => "fixed_size_list",
+            Kind::ListView => "list_view",
+            Kind::LargeListView => "large_list_view",
+        })
+    }
+}
+
+impl fmt::Display for UnknownKind {
+    fn fmt<W: fmt::Write>(&self, f: &mut fmt::Formatter<W>) -> fmt::Result {
+        let number = self.number;
+        write!(f, "no kind has the number {number}")
+    }
+}
+
+impl Error for UnknownKind {}

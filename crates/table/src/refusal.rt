@@ -1,5 +1,9 @@
-ghost use Rattle.std.specs.Prelude.{◌≡◌};
-ghost use Rattle.table.specs.Kinds.{code_of};
+ghost use Rattle.std.specs.Prelude.{◌≡◌, Some};
+ghost use Rattle.table.specs.Kinds.{code_of, refusal_name};
+ghost use Rattle.table.specs.declared.refusal.Refusal.TheVariants.{Reached};
+
+use std::error::Error;
+use std::fmt;
 
 // What is wrong with a slot that a walk has reached.
 #[derive(Clone, Copy, PartialEq, Eq, Debug, Drop)]
@@ -30,12 +34,20 @@ pub enum Refusal {
     TooManyEntries,
 }
 
-impl Refusal {
-    // The public code of a refusal.
-    pub fn code(self) -> u8
-        ensures { result ≡ code_of self }
-    {
-        match self {
+impl From<Fault> for Refusal {
+    ghost from_gives = { λ fault refusal. refusal ≡ Reached fault };
+
+    fn from(fault: Fault) -> Refusal {
+        Self::Reached(fault)
+    }
+}
+
+// The public code of a refusal.
+impl From<Refusal> for u8 {
+    ghost from_gives = { λ refusal code. code ≡ code_of refusal };
+
+    fn from(refusal: Refusal) -> u8 {
+        match refusal {
             Refusal::Table => 1,
             Refusal::Buffers => 2,
             Refusal::NotALeaf => 3,
@@ -48,3 +60,23 @@ impl Refusal {
         }
     }
 }
+
+impl fmt::Display for Refusal {
+    ghost output = { λ refusal. Some (refusal_name refusal) };
+
+    fn fmt<W: fmt::Write>(&self, f: &mut fmt::Formatter<W>) -> fmt::Result {
+        f.write_str(match self {
+            Refusal::Table => "table",
+            Refusal::Buffers => "buffers",
+            Refusal::NotALeaf => "not-a-leaf",
+            Refusal::RowRange => "row-range",
+            Refusal::Reached(fault) => match fault.cause {
+                Cause::RequiredNull => "required-null",
+                Cause::WrongSpan => "span",
+            },
+            Refusal::TooManyEntries => "too-many-entries",
+        })
+    }
+}
+
+impl Error for Refusal {}

@@ -1,50 +1,37 @@
-ghost use Rattle.std.specs.Prelude.{◌≡◌, ℕ, ◌+◌, ◌<◌, ◌≤◌, true, length};
-ghost use Rattle.table.specs.Table.{line, among, children, size_fits, children_fit, path_fits, node_at, placed, node_fits, shape_answer, Rising};
+ghost use Rattle.std.specs.Prelude.{◌≡◌, ◌<◌, true, false, length, MatchResult};
+ghost use Rattle.table.specs.Kinds.{kind_of};
+ghost use Rattle.table.specs.Table.{line, children, size_fits, children_fit, path_fits, kind_fits, table_holds, leaves as leaves_of, shape_answer};
+ghost use Rattle.table.specs.declared.refusal.Refusal.{Refusal as Why};
 
 use crate::node::{Kind, Node};
+use crate::order::Ordered;
 use crate::refusal::Refusal;
 
-// Whether `above` is a node or one of its ancestors.
-fn is_above(nodes: &[Node], from: usize, above: usize) -> bool
-    requires within { from < length nodes.now }
-    requires rising { Rising nodes.now (from + 1) }
-    ensures same { result ≡ among above (line nodes.now from) }
-    ensures low { result ≡ true → above ≤ from }
-{
-    let mut at = from;
-    while at > above {
-        at = nodes[at].parent as usize;
-    }
-    at == above
-}
-
-// How many nodes lead from the root to a node, both counted.
-pub fn depth(nodes: &[Node], of: usize) -> usize
-    requires within { of < length nodes.now }
-    requires rising { Rising nodes.now (of + 1) }
-    ensures { result ≡ length (line nodes.now of) }
-{
-    let mut at = of;
-    let mut count = 1;
-    while at > 0 {
-        at = nodes[at].parent as usize;
-        count += 1;
-    }
-    count
+// A table that meets the rules of a table, and how many leaves it has.
+#[derive(Clone, Copy, Drop)]
+pub struct Table<'a> {
+    pub nodes: &'a [Node],
+    pub leaves: u32,
+    pub ghost holds: { table_holds nodes.now ≡ true },
+    pub ghost counted: { leaves ≡ leaves_of nodes.now },
 }
 
 fn count_children(nodes: &[Node], of: usize) -> usize
     ensures { result ≡ children nodes.now of }
 {
-    let mut count = 0;
-    for node in nodes {
-        if node.parent as usize == of {
-            count += 1;
-        }
-    }
-    count
+    nodes
+        .iter()
+        .filter(|node| node.parent as usize == of)
+        .count()
 }
 
+fn count_leaves(nodes: &[Node]) -> usize
+    ensures { result ≡ leaves_of nodes.now }
+{
+    nodes.iter().filter(|node| node.kind == 0).count()
+}
+
+// Of one shape with `path_fits`, and no plainer as one: each answers its own sentence of the rules.
 fn size_fits(kind: Kind, size: u32) -> bool
     ensures { result ≡ size_fits kind size }
 {
@@ -73,54 +60,58 @@ fn path_fits(kind: Kind, count: usize) -> bool
     }
 }
 
-// Whether a node stands where depth-first order lets it.
-fn is_placed(nodes: &[Node], i: usize, parent: u8) -> bool
-    requires within { i < length nodes.now }
-    requires rising { Rising nodes.now i }
-    requires parent { parent ≡ (node_at nodes.now i).parent }
-    ensures same { result ≡ placed nodes.now i }
-    ensures rising { result ≡ true → Rising nodes.now (i + 1) }
+// Whether a node meets the rules of its kind.
+fn fits(ordered: Ordered, i: usize, node: Node) -> bool
+    requires { i < ordered.count }
+    ensures { result ≡ kind_fits (kind_of node.kind) node.size (children ordered.entry.nodes.now i) (length (line ordered.entry.nodes.now i)) }
 {
-    if i == 0 {
-        return parent == 255;
-    }
-    is_above(nodes, i - 1, parent as usize)
-}
-
-// Whether a node meets the rules of a table.
-fn fits(nodes: &[Node], i: usize, node: Node) -> bool
-    requires within { i < length nodes.now }
-    requires rising { Rising nodes.now i }
-    requires node { node ≡ node_at nodes.now i }
-    ensures same { result ≡ node_fits nodes.now i }
-    ensures rising { result ≡ true → Rising nodes.now (i + 1) }
-{
-    let Some(kind) = Kind::of(node.kind) else {
+    let Ok(kind) = Kind::try_from(node.kind) else {
         return false;
     };
-    if !is_placed(nodes, i, node.parent) {
-        return false;
-    }
-    let children = count_children(nodes, i);
-    let path = depth(nodes, i);
+    let children = count_children(ordered.nodes, i);
+    let path = ordered.depth(i);
     size_fits(kind, node.size) && children_fit(kind, children) && path_fits(kind, path)
+}
+
+impl<'a> Table<'a> {
+    // Nodes as a table, if they meet the rules of a table.
+    pub fn new(nodes: &'a [Node]) -> Result<Table<'a>, Refusal>
+        ensures { MatchResult result (λ table. table.nodes.now ≡ nodes.now) (λ refusal. (refusal ≡ Why.Table) × (table_holds nodes.now ≡ false)) }
+    {
+        if nodes.is_empty() || nodes.len() > 64 {
+            return Err(Refusal::Table);
+        }
+        let mut ordered = Ordered::none(nodes);
+        for (i, node) in nodes.iter().enumerate() {
+            let Some(more) = ordered.extended() else {
+                return Err(Refusal::Table);
+            };
+            if !fits(more, i, *node) {
+                return Err(Refusal::Table);
+            }
+            ordered = more;
+        }
+        Ok(Table {
+            nodes,
+            leaves: count_leaves(nodes) as u32,
+        })
+    }
+
+    // Its nodes, all of them in depth-first order.
+    pub fn ordered(self) -> Ordered<'a>
+        ensures nodes { result.nodes.now ≡ self.entry.nodes.now }
+        ensures count { result.count ≡ length self.entry.nodes.now }
+    {
+        Ordered {
+            nodes: self.nodes,
+            count: self.nodes.len(),
+        }
+    }
 }
 
 // How many leaves a table has, if it meets the rules of a table.
 pub fn shape(nodes: &[Node]) -> Result<u32, Refusal>
     ensures { result ≡ shape_answer nodes.now }
 {
-    if nodes.is_empty() || nodes.len() > 64 {
-        return Err(Refusal::Table);
-    }
-    let mut leaves = 0;
-    for (i, node) in nodes.iter().enumerate() {
-        if !fits(nodes, i, *node) {
-            return Err(Refusal::Table);
-        }
-        if node.kind == 0 {
-            leaves += 1;
-        }
-    }
-    Ok(leaves)
+    Ok(Table::new(nodes)?.leaves)
 }

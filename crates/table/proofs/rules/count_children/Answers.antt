@@ -1,16 +1,14 @@
-use Rattle.std.proofs.Common.{eqb, ◌∙◌, arith}
-use Rattle.std.proofs.lemmas.Bool.{eq-eqb, ne_eqb}
-use Rattle.table.specs.Table.{parent_of}
-use Rattle.table.proofs.Counts.{many_taken, many_left}
+use Rattle.std.proofs.Common.{Bool, eqb, ◌∙◌, rules}
+use borrow.Author.Tests.{tests}
+use Rattle.std.proofs.lemmas.Iterator.{YieldsList-from_slice}
+use Rattle.std.proofs.lemmas.Iterator.Consumers.{YieldsList-from_filter, count_from_yields_List}
+use Rattle.table.specs.declared.node.Node.{Node}
+use Rattle.table.proofs.Counts.{many_nodes}
 use Rattle.table.proofs.rules.count_children.Goals as goal
-use Rattle.table.proofs.rules.count_children.Goals.{then-node-of, else-node-of}
 
-pub loop-node-preserved : goal.loop-node-preserved
-loop-node-preserved c =
-    let ns = c.args.nodes.now in
-    let i = c.loop-node.node-index in
-    let h = c.loop-node.invariant.0 in
-    elim c.if-node-of.branch [
-      | then-node-of w ↦ (omega (arith, w.count-is), w.count-is ∙ many_taken (λ j. eqb (parent_of ns j) c.args.of) i c.loop-node.count c.loop-node.invariant.1 (eq-eqb (parent_of ns i) c.args.of w.if-node-of.true))
-      | else-node-of w ↦ (omega (arith, w.count-is), w.count-is ∙ many_left (λ j. eqb (parent_of ns j) c.args.of) i c.loop-node.count c.loop-node.invariant.1 (ne_eqb (parent_of ns i) c.args.of w.if-node-of.false))
-    ]
+pub returns : goal.returns
+returns c =
+    let test : Node → Bool = λ node. eqb node.parent c.args.of in
+    count_from_yields_List c.filter.result c.count.result c.count.ensures.ran
+    (YieldsList-from_filter _ test (YieldsList-from_slice c.args.nodes.now cc) c.filter.ensures.closure (λ x b q k. search (rules, tests)))
+    ∙ many_nodes test c.args.nodes.now
