@@ -1,4 +1,6 @@
 pub mod Behind
+pub mod Packing
+pub mod Runs
 pub mod Agree
 pub mod Joins
 pub mod Places

@@ -1,5 +1,7 @@
 pub mod Bits
+pub mod Packed
 pub mod Slots
 pub mod Reading
 pub mod Trace
 pub mod Sound
+pub mod Along

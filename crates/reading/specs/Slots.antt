@@ -1,12 +1,13 @@
 -- What the slots of lists hold: where their elements stand in the list's child.
 use Rattle.std.specs.Prelude.{ℕ, zero, suc, ◌+◌, ◌*◌, ◌^◌, ◌<◌, ◌≤◌, Bool, cond, List, map, length, ℤ, pos, negsuc, ◌-ℤ◌, Some, None, Option, ◌==◌, nat_le, slice_index_or}
 use Rattle.std.specs.List.{range_with_len}
+use Rattle.std.specs.Coded.{×_prop}
+use Rattle.std.proofs.Props.{props}
 use Rattle.table.specs.declared.node.Kind.{Kind}
 use Rattle.table.specs.declared.node.Source.{Source}
 use Rattle.table.specs.declared.leaf_path.PathNode.{PathNode}
-use Rattle.reading.specs.declared.branch.Branch.{Branch}
 use Rattle.reading.specs.declared.slot.Slot.{Slot}
-use Rattle.reading.specs.Bits.{valid_in, BitsIn}
+use Rattle.reading.specs.Bits.{valid_in, BitsIn, BitsIn-prop}
 
 -- the buffers that every node reads: validity bytes, and offsets of either width
 pub record Buffers : Type 0 where
@@ -16,12 +17,6 @@ pub record Buffers : Type 0 where
 
 abbrev pub buffers : List ℕ → List ℤ → List ℤ → Buffers
 buffers bytes narrow wide = record { bytes = bytes; narrow = narrow; wide = wide }
-
-abbrev pub inside : Branch → Buffers
-inside b = buffers b.validity.now b.offsets32.now b.offsets64.now
-
-abbrev pub along : Branch → List PathNode
-along b = b.nodes.now
 
 abbrev pub held_by : Source → Buffers
 held_by s = buffers s.validity.now s.offsets32.now s.offsets64.now
@@ -67,35 +62,18 @@ held None = Slot.Wrong
 held (Some s) = cond (s.1 == 0) Slot.Empty (Slot.Spanned (s.0, s.0 + s.1))
 
 -- validity is looked at first
-abbrev pub slot_by : List ℕ → PathNode → (ℕ → Span) → ℕ → Slot
-slot_by bytes n spans i = cond (valid_in bytes n.validity i) (held (spans i)) Slot.Null
+abbrev pub slot_by : (ℕ → Bool) → (ℕ → Span) → ℕ → Slot
+slot_by there spans i = cond (there i) (held (spans i)) Slot.Null
 
--- the slots of a list, one after the other
-abbrev pub slots_by : List ℕ → PathNode → (ℕ → Span) → List Slot
-slots_by bytes n spans = map (slot_by bytes n spans) (range_with_len 0 n.slots)
+-- so many slots of a list, one after the other
+abbrev pub slots_by : (ℕ → Bool) → ℕ → (ℕ → Span) → List Slot
+slots_by there count spans = map (slot_by there spans) (range_with_len 0 count)
 
 abbrev pub slots_of : Buffers → PathNode → ℕ → List Slot
-slots_of b n most = slots_by b.bytes n (span_at b n n.kind most)
+slots_of b n most = slots_by (valid b n.validity) n.slots (span_at b n n.kind most)
 
 abbrev pub slot_at : Buffers → PathNode → ℕ → ℕ → Slot
-slot_at b n most i = slot_by b.bytes n (span_at b n n.kind most) i
-
--- the validity bits of a list's slots are in the bytes, and its offsets and sizes in a buffer of so many numbers
-pub record ListedIn (n : PathNode) (bytes : List ℕ) (room : ℕ) : Type 0 where
-  pub small : n.slots ≤ 2147483647
-  pub bits : BitsIn bytes n.slots n.validity
-  pub offsets : n.offsets + n.slots < room
-
-pub record ViewedIn (n : PathNode) (bytes : List ℕ) (room : ℕ) : Type 0 where
-  pub small : n.slots ≤ 2147483647
-  pub bits : BitsIn bytes n.slots n.validity
-  pub offsets : n.offsets + n.slots ≤ room
-  pub sizes : n.sizes + n.slots ≤ room
-
-pub record FixedIn (n : PathNode) (bytes : List ℕ) : Type 0 where
-  pub small : n.slots ≤ 2147483647
-  pub bits : BitsIn bytes n.slots n.validity
-  pub size : n.slots * n.size < 2 ^ 64
+slot_at b n most i = slot_by (valid b n.validity) (span_at b n n.kind most) i
 
 -- the numbers of a node's slots are in the buffers
 abbrev pub SpansIn : Buffers → PathNode → Kind → Type 0
@@ -110,3 +88,15 @@ SpansIn b n Kind.LargeListView = (n.offsets + n.slots ≤ length b.wide) × (n.s
 -- what reading a node's slots asks of the buffers
 abbrev pub NodeIn : Buffers → PathNode → Type 0
 NodeIn b n = BitsIn b.bytes n.slots n.validity × SpansIn b n n.kind
+
+pub SpansIn-prop : (b : Buffers) (n : PathNode) (k : Kind) → IsProp (SpansIn b n k)
+SpansIn-prop b n Kind.Leaf = hlevel props
+SpansIn-prop b n Kind.Struct = hlevel props
+SpansIn-prop b n Kind.List = hlevel props
+SpansIn-prop b n Kind.LargeList = hlevel props
+SpansIn-prop b n Kind.FixedSizeList = hlevel props
+SpansIn-prop b n Kind.ListView = hlevel props
+SpansIn-prop b n Kind.LargeListView = hlevel props
+
+pub NodeIn-prop : (b : Buffers) (n : PathNode) → IsProp (NodeIn b n)
+NodeIn-prop b n = ×_prop (BitsIn-prop b.bytes n.slots n.validity) (SpansIn-prop b n n.kind)

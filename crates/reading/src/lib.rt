@@ -8,11 +8,13 @@ mod bits;
 mod branch;
 mod slot;
 mod slots;
+mod validity;
 
-pub use bits::{bit_at, same_from, valid_at};
+pub use bits::{bit_at, ones_below};
 pub use branch::Branch;
 pub use slot::{Offset, Slot};
-pub use slots::{FixedSlots, OffsetSlots, Slots, ViewSlots, slot_of};
+pub use slots::{FixedSlots, OffsetSlots, Slots, ViewSlots};
+pub use validity::Validity;
 
 // A theorem: the trace of a range is the striping of the rows read there, or stops at the first fault that the reading meets.
 pub fn trace_is_striping() -> u8

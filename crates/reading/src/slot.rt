@@ -2,6 +2,7 @@ ghost use Rattle.std.specs.Prelude.{◌≡◌, ◌+◌, ◌*◌, ◌<◌, ℤ, �
 ghost use Rattle.reading.specs.Slots.{span as span_of, within, held};
 
 // What a slot of a list holds: null, nothing, its first place in the child and the place after its last, or what no list can hold.
+// A pair, as docs/TABLE.md says, since a `Range` is not Copy.
 #[derive(Clone, Copy, Drop)]
 pub enum Slot {
     Null,
@@ -10,28 +11,23 @@ pub enum Slot {
     Wrong,
 }
 
-// An offset or a size of either width.
-pub trait Offset: Copy + Drop {
+// An offset or a size of either width. `Into` only relates it to the number that it is, and a list of offsets needs a function.
+pub trait Offset: Copy + Drop + Into<i64> {
     ghost value: { Self → ℤ };
 
-    fn widened(self) -> i64
-        ensures { result ≡ value self };
+    ghost widens: { (x : Self) (y : ℤ) → Self.converts x y → y ≡ value x };
 }
 
 impl Offset for i32 {
     ghost value = { λ x. x };
 
-    fn widened(self) -> i64 {
-        self as i64
-    }
+    ghost widens = { λ x y e. e };
 }
 
 impl Offset for i64 {
     ghost value = { λ x. x };
 
-    fn widened(self) -> i64 {
-        self
-    }
+    ghost widens = { λ x y e. e };
 }
 
 // The elements from a place on, so many of them, in a child of `most` slots.

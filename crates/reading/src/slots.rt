@@ -1,194 +1,167 @@
-ghost use Rattle.std.specs.Prelude.{◌≡◌, ◌+◌, ◌*◌, ◌^◌, ◌<◌, ◌≤◌, List, map, length, slice_index_or};
-ghost use Rattle.reading.specs.declared.slot.Slot.{Slot as Held};
+ghost use Rattle.std.specs.Prelude.{◌≡◌, ◌*◌, ◌^◌, ◌<◌, ◌≤◌, ℕ, Bool, map, length, pos, slice_index_or};
 ghost use Rattle.reading.specs.declared.slot.Slot.TheVariants.{Null};
-ghost use Rattle.reading.specs.Bits.{BitsIn};
-ghost use Rattle.reading.specs.Slots.{within, listed, viewed, slot_by, slots_by, slot_at, ListedIn, ViewedIn, FixedIn, NodeIn, inside};
+ghost use Rattle.reading.specs.Bits.{valid_in};
+ghost use Rattle.reading.specs.Slots.{Span, span as span_of, within, listed, held, slots_by};
 
-use crate::bits::valid_at;
-use crate::branch::Branch;
 use crate::slot::{Offset, Slot, between, fixed, sized};
-use table::{Kind, PathNode};
-
-// What slot i of an offset list holds.
-fn list_slot<T: Offset>(n: PathNode, validity: &[u8], offsets: &[T], most: usize, i: usize) -> Slot
-    requires slot { i < n.slots }
-    requires small { n.slots ≤ 2147483647 }
-    requires bits { BitsIn validity.now n.slots n.validity }
-    requires offsets { n.offsets + n.slots < length offsets.now }
-    ensures { result ≡ slot_by validity.now n (λ k. listed most (map T.Offset.value offsets.now) (n.offsets + k)) i }
-{
-    if !valid_at(validity, n.validity, n.slots, i) {
-        return Slot::Null;
-    }
-    let at = n.offsets + i;
-    let from = offsets[at];
-    let to = offsets[at + 1];
-    between(most, from.widened(), to.widened())
-}
-
-// What slot i of a view holds.
-fn view_slot<T: Offset>(n: PathNode, validity: &[u8], offsets: &[T], most: usize, i: usize) -> Slot
-    requires slot { i < n.slots }
-    requires small { n.slots ≤ 2147483647 }
-    requires bits { BitsIn validity.now n.slots n.validity }
-    requires offsets { n.offsets + n.slots ≤ length offsets.now }
-    requires sizes { n.sizes + n.slots ≤ length offsets.now }
-    ensures { result ≡ slot_by validity.now n (λ k. viewed most (map T.Offset.value offsets.now) (n.offsets + k) (n.sizes + k)) i }
-{
-    if !valid_at(validity, n.validity, n.slots, i) {
-        return Slot::Null;
-    }
-    let from = offsets[n.offsets + i];
-    let size = offsets[n.sizes + i];
-    sized(most, from.widened(), size.widened())
-}
-
-// What slot i of a fixed-size list holds.
-fn fixed_slot(n: PathNode, validity: &[u8], most: usize, i: usize) -> Slot
-    requires slot { i < n.slots }
-    requires small { n.slots ≤ 2147483647 }
-    requires bits { BitsIn validity.now n.slots n.validity }
-    requires size { n.slots * n.size < 2 ^ 64 }
-    ensures { result ≡ slot_by validity.now n (λ k. within most (k * n.size) n.size) i }
-{
-    if !valid_at(validity, n.validity, n.slots, i) {
-        return Slot::Null;
-    }
-    fixed(most, n.size, i)
-}
+use crate::validity::Validity;
 
 // The slots of a list of any kind.
 pub trait Slots {
-    // what they hold, one after the other
-    ghost holds: { Self → List Held };
+    // which of them are valid, how many they are, and where the elements of each stand in the child
+    ghost there: { Self → ℕ → Bool };
 
-    // their validity bits, offsets and sizes are in the buffers
-    ghost sound: { Self → Type 0 };
+    ghost count: { Self → ℕ };
 
+    ghost spans: { Self → ℕ → Span };
+
+    fn is_valid(&self, i: usize) -> bool
+        requires { i < count self.now }
+        ensures { result ≡ there self.now i };
+
+    // What slot i holds where it is valid.
+    fn elements(&self, i: usize) -> Slot
+        requires { i < count self.now }
+        ensures { result ≡ held (spans self.now i) };
+
+    // What slot i holds: validity is looked at first.
     fn slot(&self, i: usize) -> Slot
-        requires sound { sound self.now }
-        requires place { i < length (holds self.now) }
-        ensures { result ≡ slice_index_or (holds self.now) i Null };
+        requires { i < length (slots_by (there self.now) (count self.now) (spans self.now)) }
+        ensures { result ≡ slice_index_or (slots_by (there self.now) (count self.now) (spans self.now)) i Null }
+    {
+        if self.is_valid(i) {
+            self.elements(i)
+        } else {
+            Slot::Null
+        }
+    }
 }
 
 // A list whose slots go from one offset to the next, over a child of `most` slots.
 #[derive(Drop)]
 pub struct OffsetSlots<'a, T> {
-    pub node: PathNode,
-    pub validity: &'a [u8],
+    pub validity: Validity<'a>,
     pub offsets: &'a [T],
     pub most: usize,
+    pub ghost inside: { validity.slots < length offsets.now },
+}
+
+impl<'a, T> OffsetSlots<'a, T> {
+    pub(crate) fn new(validity: Validity<'a>, offsets: &'a [T], most: usize) -> Self
+        requires { validity.slots < length offsets.now }
+        ensures validity { result.validity ≡ validity.entry }
+        ensures offsets { result.offsets ≡ offsets.entry }
+        ensures most { result.most ≡ most }
+    {
+        OffsetSlots {
+            validity,
+            offsets,
+            most,
+        }
+    }
 }
 
 impl<'a, T: Offset> Slots for OffsetSlots<'a, T> {
-    ghost holds = { λ s. slots_by s.validity.now s.node (λ k. listed s.most (map T.Offset.value s.offsets.now) (s.node.offsets + k)) };
+    ghost there = { λ s. valid_in s.validity.bytes.now s.validity.start };
 
-    ghost sound = { λ s. ListedIn s.node s.validity.now (length s.offsets.now) };
+    ghost count = { λ s. s.validity.slots };
 
-    fn slot(&self, i: usize) -> Slot {
-        list_slot(self.node, self.validity, self.offsets, self.most, i)
+    ghost spans = { λ s. listed s.most (map T.Offset.value s.offsets.now) };
+
+    fn is_valid(&self, i: usize) -> bool {
+        self.validity.is_valid(i)
+    }
+
+    fn elements(&self, i: usize) -> Slot {
+        let from = self.offsets[i];
+        let to = self.offsets[i + 1];
+        between(self.most, from.into(), to.into())
     }
 }
 
 // A list whose slots each have an offset and a size, over a child of `most` slots.
 #[derive(Drop)]
 pub struct ViewSlots<'a, T> {
-    pub node: PathNode,
-    pub validity: &'a [u8],
+    pub validity: Validity<'a>,
     pub offsets: &'a [T],
+    pub sizes: &'a [T],
     pub most: usize,
+    pub ghost offsets_inside: { validity.slots ≤ length offsets.now },
+    pub ghost sizes_inside: { validity.slots ≤ length sizes.now },
+}
+
+impl<'a, T> ViewSlots<'a, T> {
+    pub(crate) fn new(validity: Validity<'a>, offsets: &'a [T], sizes: &'a [T], most: usize) -> Self
+        requires offsets { validity.slots ≤ length offsets.now }
+        requires sizes { validity.slots ≤ length sizes.now }
+        ensures validity { result.validity ≡ validity.entry }
+        ensures offsets { result.offsets ≡ offsets.entry }
+        ensures sizes { result.sizes ≡ sizes.entry }
+        ensures most { result.most ≡ most }
+    {
+        ViewSlots {
+            validity,
+            offsets,
+            sizes,
+            most,
+        }
+    }
 }
 
 impl<'a, T: Offset> Slots for ViewSlots<'a, T> {
-    ghost holds = { λ s. slots_by s.validity.now s.node (λ k. viewed s.most (map T.Offset.value s.offsets.now) (s.node.offsets + k) (s.node.sizes + k)) };
+    ghost there = { λ s. valid_in s.validity.bytes.now s.validity.start };
 
-    ghost sound = { λ s. ViewedIn s.node s.validity.now (length s.offsets.now) };
+    ghost count = { λ s. s.validity.slots };
 
-    fn slot(&self, i: usize) -> Slot {
-        view_slot(self.node, self.validity, self.offsets, self.most, i)
+    ghost spans = { λ s i. span_of s.most (slice_index_or (map T.Offset.value s.offsets.now) i (pos 0)) (slice_index_or (map T.Offset.value s.sizes.now) i (pos 0)) };
+
+    fn is_valid(&self, i: usize) -> bool {
+        self.validity.is_valid(i)
+    }
+
+    fn elements(&self, i: usize) -> Slot {
+        let from = self.offsets[i];
+        let size = self.sizes[i];
+        sized(self.most, from.into(), size.into())
     }
 }
 
 // A list whose slots all have the same size, over a child of `most` slots.
 #[derive(Drop)]
 pub struct FixedSlots<'a> {
-    pub node: PathNode,
-    pub validity: &'a [u8],
+    pub validity: Validity<'a>,
+    pub size: usize,
     pub most: usize,
+    pub ghost inside: { validity.slots * size < 2 ^ 64 },
 }
 
-impl<'a> Slots for FixedSlots<'a> {
-    ghost holds = { λ s. slots_by s.validity.now s.node (λ k. within s.most (k * s.node.size) s.node.size) };
-
-    ghost sound = { λ s. FixedIn s.node s.validity.now };
-
-    fn slot(&self, i: usize) -> Slot {
-        fixed_slot(self.node, self.validity, self.most, i)
+impl<'a> FixedSlots<'a> {
+    pub(crate) fn new(validity: Validity<'a>, size: usize, most: usize) -> Self
+        requires { validity.slots * size < 2 ^ 64 }
+        ensures validity { result.validity ≡ validity.entry }
+        ensures size { result.size ≡ size }
+        ensures most { result.most ≡ most }
+    {
+        FixedSlots {
+            validity,
+            size,
+            most,
+        }
     }
 }
 
-// What slot i of a node on a branch holds, in a child of `most` slots; leaves and structs hold no elements.
-pub fn slot_of(b: Branch, n: PathNode, most: usize, i: usize) -> Slot
-    requires slot { i < n.slots }
-    requires small { n.slots ≤ 2147483647 }
-    requires inside { NodeIn (inside b) n }
-    ensures { result ≡ slot_at (inside b.entry) n most i }
-{
-    let node = n;
-    let validity = b.validity;
-    match n.kind {
-        Kind::List => {
-            let offsets = b.offsets32;
-            OffsetSlots {
-                node,
-                validity,
-                offsets,
-                most,
-            }
-            .slot(i)
-        }
-        Kind::LargeList => {
-            let offsets = b.offsets64;
-            OffsetSlots {
-                node,
-                validity,
-                offsets,
-                most,
-            }
-            .slot(i)
-        }
-        Kind::FixedSizeList => FixedSlots {
-            node,
-            validity,
-            most,
-        }
-        .slot(i),
-        Kind::ListView => {
-            let offsets = b.offsets32;
-            ViewSlots {
-                node,
-                validity,
-                offsets,
-                most,
-            }
-            .slot(i)
-        }
-        Kind::LargeListView => {
-            let offsets = b.offsets64;
-            ViewSlots {
-                node,
-                validity,
-                offsets,
-                most,
-            }
-            .slot(i)
-        }
-        _ => {
-            if valid_at(validity, n.validity, n.slots, i) {
-                Slot::Wrong
-            } else {
-                Slot::Null
-            }
-        }
+impl<'a> Slots for FixedSlots<'a> {
+    ghost there = { λ s. valid_in s.validity.bytes.now s.validity.start };
+
+    ghost count = { λ s. s.validity.slots };
+
+    ghost spans = { λ s i. within s.most (i * s.size) s.size };
+
+    fn is_valid(&self, i: usize) -> bool {
+        self.validity.is_valid(i)
+    }
+
+    fn elements(&self, i: usize) -> Slot {
+        fixed(self.most, self.size, i)
     }
 }
