@@ -1,7 +1,7 @@
 -- Sizes add up.
 use Rattle.std.proofs.Common.{◌≡◌, ℕ, zero, suc, ◌+◌, ◌-◌, ◌<◌, ◌≤◌, Bool, true, false, Some, None, sym, refl, ap, ◌∙◌, ap₂, arith}
 use Rattle.rows.specs.Rows.{one}
-use Rattle.tally.specs.Packed.{count_of}
+use Rattle.reading.specs.Packed.{count_of}
 use Rattle.tally.specs.Sizes.{Size, ◌plus◌, each_size, spread_size}
 
 pub zero_plus : (x : Size) → Some (0, 0) plus x ≡ x

@@ -8,10 +8,10 @@ use Rattle.table.specs.declared.leaf_path.PathNode.{PathNode}
 use Rattle.table.specs.Paths.{step_of}
 use Rattle.reading.specs.Slots.{Buffers, valid}
 use Rattle.reading.specs.Reading.{node_on}
-use Rattle.tally.specs.Packed.{packed, count_of}
+use Rattle.reading.specs.Packed.{packed, count_of}
 use Rattle.tally.specs.Sizes.{◌plus◌, size_at, sizes}
 use Rattle.tally.specs.Reaching.{holds, holds_by, Holding, HeldBelow}
-use Rattle.tally.proofs.Packing.{packed_and, packed_ext, packed-same, packed_ones}
+use Rattle.reading.proofs.Packing.{packed_and, packed_ext, packed-same, packed_ones}
 use Rattle.tally.proofs.Adding.{size_on, each_tested, count_le}
 use Rattle.tally.proofs.Nodes.{node-holds, size_null, size_leaf, size_struct}
 

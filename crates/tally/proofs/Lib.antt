@@ -1,5 +1,3 @@
-pub mod Packing
-pub mod Validity
 pub mod Traces
 pub mod Adding
 pub mod Nodes

@@ -1,7 +1,8 @@
 -- The sizes of neighbouring slots by those of one range of slots below them.
-use Rattle.std.proofs.Common.{◌≡◌, ℕ, zero, suc, ◌+◌, ◌-◌, ◌*◌, ◌<◌, ◌≤◌, true, false, cond, eqb, List, map, length, get_or, drop, ℤ, pos, ◌-ℤ◌, Some, None, Option, sym, refl, ap, ◌∙◌, subst, ap₂, mul-le-mul_right, suc-mul, add-mul, arith, eq-eqb, ne_eqb, le-leb}
+use Rattle.std.proofs.Common.{◌≡◌, ℕ, zero, suc, ◌+◌, ◌-◌, ◌*◌, ◌<◌, ◌≤◌, Bool, true, false, cond, eqb, List, map, length, get_or, drop, ℤ, pos, ◌-ℤ◌, Some, None, Option, sym, refl, ap, ◌∙◌, subst, ap₂, mul-le-mul_right, suc-mul, add-mul, arith, eq-eqb, ne_eqb, le-leb}
 use native.Mathlib.Decide.{dec_lt}
 use borrow.Author.Differences.{ints}
+use Rattle.std.specs.Bool.{then_some}
 use Rattle.std.proofs.lemmas.List.{map-id}
 use Rattle.rows.specs.Rows.{one}
 use Rattle.table.specs.declared.node.Kind.{Kind}
@@ -121,7 +122,7 @@ module _ (b : Buffers) (ns : List PathNode) (sound : Sound b ns) (k from : ℕ) 
   pub child_there : Repeats n.kind → k + 1 < length ns
   child_there r = list_child ns k n.slots n.kind r (sound.child k lt)
 
-  pub nulls : (end c : ℕ) → SameRun b.bytes n.validity from end c → valid b n.validity from ≡ false → n.nullable ≡ true → Reaches b ns k from end (record { slots = c; from = 0; to = 0; bare = c })
+  nulls : (end c : ℕ) → SameRun b.bytes n.validity from end c → valid b n.validity from ≡ false → n.nullable ≡ true → Reaches b ns k from end (record { slots = c; from = 0; to = 0; bare = c })
   nulls end c run there nullable =
       let e : c ≡ c + 0 = omega arith in
       record {
@@ -132,9 +133,9 @@ module _ (b : Buffers) (ns : List PathNode) (sound : Sound b ns) (k from : ℕ) 
         size = each_null g c from (λ j l m. size_null b ns k lt j nullable (run.same j l m ∙ there)) ∙ ap (λ x. Some (x, 0)) e;
       }
 
-  pub wider : (end c : ℕ) → from + c ≤ end → (r : Option Reach) → Reached b ns k from (from + c) r → Reached b ns k from end r
-  wider end c le None h = tt
-  wider end c le (Some x) h = record { some = h.some; inside = (let i = h.inside in omega arith); order = h.order; child = h.child; size = h.size }
+  pub null_reach : (end c : ℕ) → SameRun b.bytes n.validity from end c → valid b n.validity from ≡ false → (t : Bool) → n.nullable ≡ t → Reached b ns k from end (then_some t (record { slots = c; from = 0; to = 0; bare = c }))
+  null_reach end c run there true e = nulls end c run there e
+  null_reach end c run there false e = tt
 
   module _ (c : ℕ) (some : 0 < c) (fits : from + c ≤ n.slots) (there : AllValid b n from c) where
     pub structs : n.kind ≡ Kind.Struct → Reaches b ns k from (from + c) (record { slots = c; from = from; to = from + c; bare = 0 })

@@ -8,7 +8,7 @@ use Rattle.table.specs.Paths.{Step, ends, passes, repeats, step_of}
 use Rattle.reading.specs.Slots.{Buffers, Span, valid, span_at}
 use Rattle.reading.specs.Reading.{null_fault, span_fault, child_slots}
 use Rattle.reading.specs.Trace.{Trace, whole, after, ◌then◌, each_trace, may_trace, span_trace, spread_trace, step_trace, trace_at, trace}
-use Rattle.tally.specs.declared.counts.Tally.{Tally}
+use Rattle.tally.specs.declared.measured.Measured.{Measured}
 use Rattle.tally.specs.Sizes.{Size, ◌plus◌, each_size, may_size, span_size, spread_size, step_size, size_at, sizes}
 use Rattle.tally.specs.Answer.{Tallied, SizedAs}
 
@@ -65,7 +65,7 @@ trace_of_size : (b : Buffers) (ns : List PathNode) (from count : ℕ) → OfSize
 trace_of_size b ns from count = each_of (λ row. trace_at b row ns 0 0 0 row) (size_at b ns) (λ row. slot_of_size b row ns 0 0 0 row) count from
 
 -- a size of the rows is a tally of their trace
-pub tallied : (b : Buffers) (ns : List PathNode) (from count : ℕ) (r : Option Tally) → SizedAs b ns 0 from count r → Tallied (trace b ns from count) r
+pub tallied : (b : Buffers) (ns : List PathNode) (from count : ℕ) (r : Option Measured) → SizedAs b ns 0 from count r → Tallied (trace b ns from count) r
 tallied b ns from count None h = tt
 tallied b ns from count (Some x) h =
     let t = subst (OfSize (trace b ns from count)) h.0 (trace_of_size b ns from count) in

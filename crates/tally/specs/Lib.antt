@@ -1,4 +1,3 @@
-pub mod Packed
 pub mod Sizes
 pub mod Reaching
 pub mod Answer

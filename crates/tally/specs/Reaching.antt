@@ -6,8 +6,10 @@ use Rattle.table.specs.declared.leaf_path.PathNode.{PathNode}
 use Rattle.table.specs.Paths.{Step, ends, passes, repeats, step_of}
 use Rattle.reading.specs.Slots.{Buffers, valid}
 use Rattle.reading.specs.Reading.{node_on}
+use Rattle.reading.specs.Along.{inside, along}
+use Rattle.tally.specs.declared.range.SlotRange.{SlotRange}
 use Rattle.tally.specs.declared.reach.Reach.{Reach}
-use Rattle.tally.specs.Packed.{packed}
+use Rattle.reading.specs.Packed.{packed}
 use Rattle.tally.specs.Sizes.{◌plus◌, size_at, sizes}
 
 -- whether slot i has a value below it, where only structs lie above the leaf
@@ -40,6 +42,9 @@ pub record Reaches (b : Buffers) (ns : List PathNode) (k from end : ℕ) (x : Re
 abbrev pub Reached : Buffers → List PathNode → ℕ → ℕ → ℕ → Option Reach → Type 0
 Reached b ns k from end None = Unit {0}
 Reached b ns k from end (Some x) = Reaches b ns k from end x
+
+abbrev pub ReachedIn : SlotRange → Option Reach → Type 0
+ReachedIn s r = Reached (inside s.branch) (along s.branch) s.node s.from s.to r
 
 -- c slots from `from` on are valid
 abbrev pub AllValid : Buffers → PathNode → ℕ → ℕ → Type 0

@@ -1,12 +1,11 @@
 ghost use Rattle.std.specs.Prelude.{◌≡◌, ◌+◌, ◌-◌, ◌*◌, ◌<◌, ◌≤◌, map, length};
-ghost use Rattle.reading.specs.Slots.{inside, along};
+ghost use Rattle.reading.specs.Along.{inside, along};
 ghost use Rattle.reading.specs.Reading.{node_on};
-ghost use Rattle.reading.specs.Sound.{Sound};
-ghost use Rattle.tally.specs.Reaching.{Repeats, Rose, Reached, SameSized, AllValid};
+ghost use Rattle.tally.specs.Reaching.{Repeats, Rose, Reached, ReachedIn, SameSized, AllValid};
 
-use crate::bits::stretch;
+use crate::range::SlotRange;
 use crate::reach::Reach;
-use reading::{Branch, Offset, Slot, slot_of, valid_at};
+use reading::{Branch, Offset, Slot};
 use table::Kind;
 
 // The child slots of c neighbouring lists by their offsets, if these rise: one range, and an entry for each empty list.
@@ -14,30 +13,26 @@ fn rising<T: Offset>(offsets: &[T], at: usize, c: usize, most: usize) -> Option<
     requires { at + c < length offsets.now }
     ensures { Rose (map T.Offset.value offsets.now) at c most result }
 {
-    let first = offsets[at].widened();
+    let first: i64 = offsets[at].into();
     let mut last = first;
+    // a flag, since the loop is slower where it may end early
     let mut rises = first >= 0;
     let mut bare: usize = 0;
-    for j in at..at + c {
-        let next = offsets[j + 1].widened();
-        if next < last {
-            rises = false;
-        }
-        if next == last {
-            bare += 1;
-        }
+    for offset in &offsets[at + 1..at + c + 1] {
+        let next: i64 = (*offset).into();
+        rises &= last <= next;
+        bare += usize::from(next == last);
         last = next;
     }
-    if rises && last as usize <= most {
-        Some(Reach {
-            slots: c,
-            from: first as usize,
-            to: last as usize,
-            bare,
-        })
-    } else {
-        None
+    if !rises || last as usize > most {
+        return None;
     }
+    Some(Reach {
+        slots: c,
+        from: first as usize,
+        to: last as usize,
+        bare,
+    })
 }
 
 // c neighbouring lists of one size: one range, or an entry each where the size is 0.
@@ -61,7 +56,6 @@ fn same_sized(size: usize, from: usize, c: usize, most: usize) -> Option<Reach>
 
 // c neighbouring slots that are valid.
 fn valid_reach(b: Branch, k: usize, from: usize, c: usize) -> Option<Reach>
-    requires sound { Sound (inside b) (along b) }
     requires node { k < length (along b) }
     requires some { 0 < c }
     requires slots { from + c ≤ (node_on (along b) k).slots }
@@ -83,89 +77,57 @@ fn valid_reach(b: Branch, k: usize, from: usize, c: usize) -> Option<Reach>
     }
 }
 
-// The first of the slots from..end and those behind it that are valid or null as it is.
-fn alike_reach(b: Branch, k: usize, from: usize, end: usize) -> Option<Reach>
-    requires sound { Sound (inside b) (along b) }
-    requires node { k < length (along b) }
-    requires order { from < end }
-    requires slots { end ≤ (node_on (along b) k).slots }
-    ensures { Reached (inside b.entry) (along b.entry) k from end result }
+// The first of some slots and those behind it that are valid or null as it is.
+fn alike_reach(slots: SlotRange) -> Option<Reach>
+    requires { slots.from < slots.to }
+    ensures { ReachedIn slots.entry result }
 {
-    let n = b.nodes[k];
-    let c = stretch(b.validity, n.validity, n.slots, from, end);
-    if valid_at(b.validity, n.validity, n.slots, from) {
-        return valid_reach(b, k, from, c);
+    let b = slots.branch;
+    let c = b.same_from(slots.node, slots.from, slots.to);
+    if b.is_valid(slots.node, slots.from) {
+        return valid_reach(b, slots.node, slots.from, c);
     }
-    if n.nullable {
-        return Some(Reach {
-            slots: c,
-            from: 0,
-            to: 0,
-            bare: c,
-        });
-    }
-    None
-}
-
-// The first of the slots from..end of a list and those behind it whose elements follow one another, slot by slot.
-fn following_reach(b: Branch, k: usize, from: usize, end: usize) -> Option<Reach>
-    requires sound { Sound (inside b) (along b) }
-    requires node { k + 1 < length (along b) }
-    requires list { Repeats (node_on (along b) k).kind }
-    requires order { from < end }
-    requires slots { end ≤ (node_on (along b) k).slots }
-    ensures { Reached (inside b.entry) (along b.entry) k from end result }
-{
-    let n = b.nodes[k];
-    let most = b.nodes[k + 1].slots;
-    let mut first: usize = 0;
-    let mut last: usize = 0;
-    let mut bare: usize = 0;
-    for i in from..end {
-        match slot_of(b, n, most, i) {
-            Slot::Wrong => return None,
-            Slot::Null => {
-                if n.nullable {
-                    bare += 1;
-                } else {
-                    return None;
-                }
-            }
-            Slot::Empty => bare += 1,
-            Slot::Spanned((start, stop)) => {
-                if first == last {
-                    first = start;
-                } else if start != last {
-                    return Some(Reach {
-                        slots: i - from,
-                        from: first,
-                        to: last,
-                        bare,
-                    });
-                }
-                last = stop;
-            }
-        }
-    }
-    Some(Reach {
-        slots: end - from,
-        from: first,
-        to: last,
-        bare,
+    b.nodes[slots.node].nullable.then_some(Reach {
+        slots: c,
+        from: 0,
+        to: 0,
+        bare: c,
     })
 }
 
-// Some of the slots from..end of a node that is no leaf, the first of them among these.
-pub fn next_reach(b: Branch, k: usize, from: usize, end: usize) -> Option<Reach>
-    requires sound { Sound (inside b) (along b) }
-    requires node { k < length (along b) }
-    requires order { from < end }
-    requires slots { end ≤ (node_on (along b) k).slots }
-    ensures { Reached (inside b.entry) (along b.entry) k from end result }
+// The first of some slots of a list and those behind it whose elements follow one another, slot by slot.
+fn following_reach(slots: SlotRange) -> Option<Reach>
+    requires child { slots.node + 1 < length (along slots.branch) }
+    requires list { Repeats (node_on (along slots.branch) slots.node).kind }
+    requires order { slots.from < slots.to }
+    ensures { ReachedIn slots.entry result }
 {
-    match b.nodes[k].kind {
-        Kind::ListView => following_reach(b, k, from, end),
-        Kind::LargeListView => following_reach(b, k, from, end),
-        _ => alike_reach(b, k, from, end),
+    let nullable = slots.branch.nodes[slots.node].nullable;
+    let mut span: Option<(usize, usize)> = None;
+    let mut bare: usize = 0;
+    for i in slots.from..slots.to {
+        match slots.branch.slot(slots.node, i) {
+            Slot::Wrong => return None,
+            Slot::Null if !nullable => return None,
+            Slot::Null => bare += 1,
+            Slot::Empty => bare += 1,
+            Slot::Spanned((start, stop)) => match span {
+                None => span = Some((start, stop)),
+                Some((first, last)) if last == start => span = Some((first, stop)),
+                Some(_) => return Some(Reach::over(i - slots.from, span, bare)),
+            },
+        }
+    }
+    Some(Reach::over(slots.to - slots.from, span, bare))
+}
+
+// Some of the slots of a node that is no leaf, the first of them among these.
+pub fn next_reach(slots: SlotRange) -> Option<Reach>
+    requires { slots.from < slots.to }
+    ensures { ReachedIn slots.entry result }
+{
+    match slots.branch.nodes[slots.node].kind {
+        Kind::ListView | Kind::LargeListView => following_reach(slots),
+        _ => alike_reach(slots),
     }
 }

@@ -1,79 +1,87 @@
 ghost use Rattle.std.specs.Prelude.{◌-◌, ◌<◌, ◌≤◌, length};
-ghost use Rattle.reading.specs.Slots.{inside, along};
+ghost use Rattle.reading.specs.Along.{inside, along};
 ghost use Rattle.reading.specs.Reading.{node_on};
-ghost use Rattle.reading.specs.Sound.{Sound};
 ghost use Rattle.reading.specs.Trace.{trace};
-ghost use Rattle.tally.specs.Answer.{Added, Tallied, SizedAs};
+ghost use Rattle.tally.specs.Answer.{Added, Tallied, SizedIn};
 
-use crate::counts::Tally;
 use crate::flat::{is_flat, tally_flat};
 use crate::lists::next_reach;
+use crate::measured::Measured;
+use crate::range::SlotRange;
 use reading::Branch;
 
 // The most entries that a range may have.
-const MOST: usize = 2_147_483_647;
+pub const MOST_ENTRIES: usize = 2_147_483_647;
 
 // What is counted so far, with the bare entries of some slots more and what lies below these; too many entries are not counted.
-fn with_more(had: Tally, bare: usize, below: Tally) -> Option<Tally>
+fn with_more(had: Measured, bare: usize, below: Measured) -> Option<Measured>
     requires few { had.entries ≤ 2147483647 }
     requires had { had.values ≤ had.entries }
     requires below { below.values ≤ below.entries }
     ensures { Added had bare below result }
 {
-    if bare > MOST - had.entries {
+    let entries = had.entries.checked_add(bare)?.checked_add(below.entries)?;
+    if entries > MOST_ENTRIES {
         return None;
     }
-    let entries = had.entries + bare;
-    if below.entries > MOST - entries {
-        return None;
-    }
-    Some(Tally {
-        entries: entries + below.entries,
+    Some(Measured {
+        entries,
         values: had.values + below.values,
     })
 }
 
-// The slots from..to of node k: neighbouring ones at once, by the range of slots below them.
-fn tally_at(b: Branch, k: usize, from: usize, to: usize) -> Option<Tally>
-    requires sound { Sound (inside b) (along b) }
-    requires node { k < length (along b) }
-    requires order { from ≤ to }
-    requires slots { to ≤ (node_on (along b) k).slots }
-    ensures { SizedAs (inside b.entry) (along b.entry) k from (to - from) result }
+// Some slots of a node: neighbouring ones at once, by the range of slots below them.
+fn tally_at(slots: SlotRange) -> Option<Measured>
+    ensures { SizedIn slots.entry result }
 {
-    if is_flat(b.nodes, k) {
-        return tally_flat(b, k, from, to);
+    let branch = slots.branch;
+    let node = slots.node;
+    let to = slots.to;
+    if is_flat(branch.nodes, node) {
+        return tally_flat(slots);
     }
-    let flat_below = is_flat(b.nodes, k + 1);
-    let mut i = from;
-    let mut all = Tally {
-        entries: 0,
-        values: 0,
-    };
-    while i < to {
-        let x = next_reach(b, k, i, to)?;
+    let flat_below = is_flat(branch.nodes, node + 1);
+    let mut from = slots.from;
+    let mut all = Measured::default();
+    // how far each turn goes is what its reach says
+    while from < to {
+        let x = next_reach(SlotRange {
+            branch,
+            node,
+            from,
+            to,
+        })?;
         let below = if x.from == x.to {
-            Tally {
-                entries: 0,
-                values: 0,
-            }
-        } else if flat_below {
-            tally_flat(b, k + 1, x.from, x.to)?
+            Measured::default()
         } else {
-            tally_at(b, k + 1, x.from, x.to)?
+            let below = SlotRange {
+                branch,
+                node: node + 1,
+                from: x.from,
+                to: x.to,
+            };
+            if flat_below {
+                tally_flat(below)?
+            } else {
+                tally_at(below)?
+            }
         };
         all = with_more(all, x.bare, below)?;
-        i += x.slots;
+        from += x.slots;
     }
     Some(all)
 }
 
 // The entries and values of the rows from..to, if the range meets no fault and has at most 2,147,483,647 entries; `None` says nothing.
-pub fn tally(b: Branch, from: usize, to: usize) -> Option<Tally>
-    requires sound { Sound (inside b) (along b) }
+pub fn tally(b: Branch, from: usize, to: usize) -> Option<Measured>
     requires order { from ≤ to }
     requires slots { to ≤ (node_on (along b) 0).slots }
     ensures { Tallied (trace (inside b.entry) (along b.entry) from (to - from)) result }
 {
-    tally_at(b, 0, from, to)
+    tally_at(SlotRange {
+        branch: b,
+        node: 0,
+        from,
+        to,
+    })
 }

@@ -1,7 +1,13 @@
-use Rattle.std.proofs.Common.{sym}
-use Rattle.reading.specs.Slots.{inside, along}
-use Rattle.tally.proofs.Ranges.{nulls}
+use Rattle.std.proofs.Common.{refl, sym, subst}
+use Rattle.reading.specs.Along.{inside, along}
+use Rattle.reading.specs.Reading.{node_on}
+use Rattle.tally.specs.Reaching.{Reached}
+use Rattle.tally.proofs.Ranges.{null_reach}
 use Rattle.tally.proofs.lists.alike_reach.Goals as goal
 
-pub returns-then-n : goal.returns-then-n
-returns-then-n c = nulls (inside c.args.b) (along c.args.b) c.requires.sound c.args.k c.args.from c.requires.node c.args.end c.stretch-c.result c.stretch-c.ensures (sym c.if-valid_at.ensures) c.if-n.true
+pub returns : goal.returns
+returns c =
+    let b = inside c.args.slots.branch in
+    let ns = along c.args.slots.branch in
+    subst (Reached b ns c.args.slots.node c.args.slots.from c.args.slots.to) (sym c.then_some.ensures)
+    (null_reach b ns c.args.slots.branch.sound c.args.slots.node c.args.slots.from c.args.slots.on c.args.slots.to c.same_from-c.result c.same_from-c.ensures (sym c.if-is_valid.ensures) (node_on ns c.args.slots.node).nullable refl)

@@ -1,7 +1,8 @@
 use Rattle.std.proofs.Common.{◌≡◌, ℕ, ◌+◌, ◌-◌, ◌≤◌, List, drop, Some, sym, ap, ◌∙◌, subst, ap₂, arith}
 use Rattle.table.specs.declared.leaf_path.PathNode.{PathNode}
-use Rattle.reading.specs.Slots.{Buffers, inside, along}
-use Rattle.tally.specs.declared.counts.Tally.{Tally}
+use Rattle.reading.specs.Slots.{Buffers}
+use Rattle.reading.specs.Along.{inside, along}
+use Rattle.tally.specs.declared.measured.Measured.{Measured}
 use Rattle.tally.specs.declared.reach.Reach.{Reach}
 use Rattle.tally.specs.Sizes.{◌plus◌, size_at, sizes}
 use Rattle.tally.specs.Answer.{SizedAs, SumOf}
@@ -11,16 +12,16 @@ use Rattle.tally.proofs.walk.+tally_at.Goals as goal
 use Rattle.tally.proofs.walk.+tally_at.Goals.{then-x, else-x+then-flat_below+in_ok-below, else-x+else-flat_below+in_ok-below-2}
 
 -- what lies below the slots of one reach
-abbrev Below : Buffers → List PathNode → ℕ → Reach → Tally → Type 0
+abbrev Below : Buffers → List PathNode → ℕ → Reach → Measured → Type 0
 Below b ns k x below = SizedAs b ns (k + 1) x.from (x.to - x.from) (Some below)
 
-none : (b : Buffers) (ns : List PathNode) (k : ℕ) (x : Reach) (below : Tally) → x.from ≡ x.to → below ≡ record { entries = 0; values = 0 } → Below b ns k x below
-none b ns k x below e is =
+none : (b : Buffers) (ns : List PathNode) (k : ℕ) (x : Reach) (below : Measured) → x.from ≡ x.to → (empty : Measured) → (empty.entries ≡ 0) × (empty.values ≡ 0) → below ≡ empty → Below b ns k x below
+none b ns k x below e empty zeros is =
     let z : x.to - x.from ≡ 0 = omega arith in
-    subst (Below b ns k x) (sym is) (ap (sizes b ns (k + 1) x.from) z, omega arith, omega arith)
+    subst (Below b ns k x) (sym is) (ap (sizes b ns (k + 1) x.from) z ∙ ap₂ (λ m n. Some (m, n)) (sym zeros.0) (sym zeros.1), omega arith, omega arith)
 
 -- the slots of one reach behind those that are counted
-on : (b : Buffers) (ns : List PathNode) (k from i end : ℕ) (had : Tally) → from ≤ i → sizes b ns k from (i - from) ≡ Some (had.entries, had.values) → (x : Reach) → Reaches b ns k i end x → (below all : Tally) → Below b ns k x below → SumOf had x.bare below all → sizes b ns k from (i + x.slots - from) ≡ Some (all.entries, all.values)
+on : (b : Buffers) (ns : List PathNode) (k from i end : ℕ) (had : Measured) → from ≤ i → sizes b ns k from (i - from) ≡ Some (had.entries, had.values) → (x : Reach) → Reaches b ns k i end x → (below all : Measured) → Below b ns k x below → SumOf had x.bare below all → sizes b ns k from (i + x.slots - from) ≡ Some (all.entries, all.values)
 on b ns k from i end had low e x r below all h s =
     let p : had.entries + (x.bare + below.entries) ≡ all.entries = omega (arith, s.entries) in
     let q : had.values + (0 + below.values) ≡ all.values = omega (arith, s.values) in
@@ -30,32 +31,32 @@ on b ns k from i end had low e x r below all h s =
 
 pub with_more-requires : goal.with_more-requires
 with_more-requires t c =
-    let b = inside c.args.b in
-    let ns = along c.args.b in
+    let b = inside c.args.slots.branch in
+    let ns = along c.args.slots.branch in
     let x : Reach = c.in_ok-x.x in
-    let h : Below b ns c.args.k x c.if-x.below = elim c.if-x.branch [
-      | then-x w ↦ none b ns c.args.k x c.if-x.below w.if-x.true w.below-is
-      | else-x+then-flat_below+in_ok-below w ↦ subst (Below b ns c.args.k x) (sym w.below-is) w.in_ok-below.ensures
-      | else-x+else-flat_below+in_ok-below-2 w ↦ subst (Below b ns c.args.k x) (sym w.below-is) w.in_ok-below-2.ensures
+    let h : Below b ns c.args.slots.node x c.if-x.below = elim c.if-x.branch [
+      | then-x w ↦ none b ns c.args.slots.node x c.if-x.below w.if-x.true w.default-below.result w.default-below.ensures w.below-is
+      | else-x+then-flat_below+in_ok-below w ↦ subst (Below b ns c.args.slots.node x) (sym w.below-is) w.in_ok-below.ensures
+      | else-x+else-flat_below+in_ok-below-2 w ↦ subst (Below b ns c.args.slots.node x) (sym w.below-is) w.in_ok-below-2.ensures
     ] in
-    record { few = c.loop-i.invariant.3; had = c.loop-i.invariant.4; below = h.2 }
+    record { few = c.loop-from.invariant.3; had = c.loop-from.invariant.4; below = h.2 }
 
-pub loop-i-preserved : goal.loop-i-preserved
-loop-i-preserved t c =
-    let b = inside c.args.b in
-    let ns = along c.args.b in
-    let inv = c.loop-i.invariant in
+pub loop-from-preserved : goal.loop-from-preserved
+loop-from-preserved t c =
+    let b = inside c.args.slots.branch in
+    let ns = along c.args.slots.branch in
+    let inv = c.loop-from.invariant in
     let x : Reach = c.in_ok-x.x in
-    let r : Reaches b ns c.args.k c.loop-i.i c.args.to x = c.in_ok-x.ensures in
-    let h : Below b ns c.args.k x c.if-x.below = elim c.if-x.branch [
-      | then-x w ↦ none b ns c.args.k x c.if-x.below w.if-x.true w.below-is
-      | else-x+then-flat_below+in_ok-below w ↦ subst (Below b ns c.args.k x) (sym w.below-is) w.in_ok-below.ensures
-      | else-x+else-flat_below+in_ok-below-2 w ↦ subst (Below b ns c.args.k x) (sym w.below-is) w.in_ok-below-2.ensures
+    let r : Reaches b ns c.args.slots.node c.loop-from.from c.args.slots.to x = c.in_ok-x.ensures in
+    let h : Below b ns c.args.slots.node x c.if-x.below = elim c.if-x.branch [
+      | then-x w ↦ none b ns c.args.slots.node x c.if-x.below w.if-x.true w.default-below.result w.default-below.ensures w.below-is
+      | else-x+then-flat_below+in_ok-below w ↦ subst (Below b ns c.args.slots.node x) (sym w.below-is) w.in_ok-below.ensures
+      | else-x+else-flat_below+in_ok-below-2 w ↦ subst (Below b ns c.args.slots.node x) (sym w.below-is) w.in_ok-below-2.ensures
     ] in
-    let s : SumOf c.loop-i.all x.bare c.if-x.below c.in_ok-all.all = c.in_ok-all.ensures in (
+    let s : SumOf c.loop-from.all x.bare c.if-x.below c.in_ok-all.all = c.in_ok-all.ensures in (
       omega (arith, inv.0),
       r.inside,
-      on b ns c.args.k c.args.from c.loop-i.i c.args.to c.loop-i.all inv.0 inv.2 x r c.if-x.below c.in_ok-all.all h s,
+      on b ns c.args.slots.node c.args.slots.from c.loop-from.from c.args.slots.to c.loop-from.all inv.0 inv.2 x r c.if-x.below c.in_ok-all.all h s,
       s.few,
       omega (arith, s.entries, s.values, inv.4, h.2),
     )

@@ -1,5 +1,5 @@
 use Rattle.std.proofs.Common.{◌-◌}
-use Rattle.reading.specs.Slots.{inside, along}
+use Rattle.reading.specs.Along.{inside, along}
 use Rattle.tally.proofs.Traces.{tallied}
 use Rattle.tally.proofs.walk.tally.Goals as goal
 

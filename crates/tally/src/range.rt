@@ -1,0 +1,16 @@
+ghost use Rattle.std.specs.Prelude.{◌<◌, ◌≤◌, length};
+ghost use Rattle.reading.specs.Reading.{node_on};
+
+use reading::Branch;
+
+// The slots from..to of one node of a branch.
+#[derive(Clone, Copy, Drop)]
+pub struct SlotRange<'a> {
+    pub branch: Branch<'a>,
+    pub node: usize,
+    pub from: usize,
+    pub to: usize,
+    ghost on: { node < length branch.nodes.now },
+    ghost order: { from ≤ to },
+    ghost within: { to ≤ (node_on branch.nodes.now node).slots },
+}
