@@ -16,7 +16,7 @@ use Rattle.reading.specs.Reading.{node_on}
 use Rattle.reading.specs.Trace.{trace}
 use Rattle.reading.specs.Sound.{Sound}
 use Rattle.reading.proofs.Sources.{sources_are_sound_lem}
-use Rattle.walk.specs.declared.Measured.{Measured}
+use Rattle.tally.specs.declared.measured.Measured.{Measured}
 use Rattle.walk.specs.Measured.{outcome, names_leaf, holds_rows, measure_answer}
 
 pub record Located (s : Source) (leaf : ℕ) (p : LeafPath) : Type 0 where

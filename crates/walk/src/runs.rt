@@ -1,55 +1,89 @@
-ghost use Rattle.std.specs.Prelude.{◌≡◌, ◌≤◌};
-ghost use Rattle.reading.specs.Slots.{inside, along};
-ghost use Rattle.reading.specs.Sound.{Sound};
-ghost use Rattle.walk.specs.Walk.{Open, ChainRun, stretch_of};
-
-use crate::frames::{Frame, Stretch};
-use crate::visit::{null_fault, raised};
-use reading::{Branch, same_from, valid_at};
+use crate::frames::{Walk, pass};
+use crate::visit::{Frame, Stretch, Visit};
 use table::{Fault, Kind};
 
-fn stretch(rep: usize, def: usize, count: usize, present: bool, at: usize) -> Stretch
-    ensures { result ≡ stretch_of rep def count present at }
-{
-    Stretch {
-        rep,
-        def,
-        count,
-        present,
-        at,
-    }
-}
+impl Walk<'_> {
+    ghost use Rattle.std.specs.Prelude.{◌≡◌, ◌<◌};
+    ghost use Rattle.reading.specs.Along.{along};
+    ghost use Rattle.walk.specs.Frames.{Open};
+    ghost use Rattle.walk.specs.Walk.{Ready, lists, ChainRun, RunOr};
 
-// The first slots of x that are valid or null alike, where only structs lie above their leaf.
-pub fn chain_run(b: Branch, row: usize, own: usize, x: Frame) -> Result<Option<Stretch>, Fault>
-    requires sound { Sound (inside b) (along b) }
-    requires slots { Open (along b) x }
-    requires few { own ≤ 8 }
-    ensures { ChainRun (inside b.entry) (along b.entry) row own x result }
-{
-    let mut node = x.node;
-    let mut def = x.def;
-    let mut end = x.end;
-    'down: loop {
-        let n = b.nodes[node];
-        let last = match n.kind {
-            Kind::Leaf => true,
-            Kind::Struct => false,
-            _ => return Ok(None),
-        };
-        let there = valid_at(b.validity, n.validity, n.slots, x.next);
-        let count = same_from(b.validity, n.validity, n.slots, x.next, end);
-        if !there {
-            if n.nullable {
-                return Ok(Some(stretch(own, def, count, false, x.next)));
+    // The first slots of x that are valid or null alike, where only structs lie above their leaf.
+    #[inline(always)]
+    fn chain_run(&self, x: Frame) -> Result<Option<Stretch>, Fault>
+        requires { Open (along self.now.rows.branch) x }
+        ensures { ChainRun self.now x result }
+    {
+        let rep = self.frames.len();
+        let mut def = x.def;
+        let mut end = x.end;
+        for node in x.node..self.rows.branch.nodes.len() {
+            let n = self.rows.branch.nodes[node];
+            match n.kind {
+                Kind::Leaf | Kind::Struct => {}
+                _ => return Ok(None),
             }
-            return Err(null_fault(n, x.next, row));
+            let valid = self.rows.branch.is_valid(node, x.next);
+            let count = self.rows.branch.same_from(node, x.next, end);
+            if !valid {
+                let slot = x.next;
+                let v = Visit {
+                    node,
+                    slot,
+                    rep,
+                    def,
+                };
+                return Ok(Some(self.nulls(v, count)?));
+            }
+            def += usize::from(n.nullable);
+            if let Kind::Leaf = n.kind {
+                return Ok(Some(Stretch {
+                    rep,
+                    def,
+                    count,
+                    first: Some(x.next),
+                }));
+            }
+            end = x.next + count;
         }
-        def = raised(n.nullable, def);
-        if last {
-            return Ok(Some(stretch(own, def, count, true, x.next)));
+        Ok(None)
+    }
+
+    // A run of rows.
+    fn run_rows(&mut self) -> Result<Option<Stretch>, Fault>
+        requires flat { lists self.old ≡ 0 }
+        requires some { self.old.rows.from < self.old.rows.to }
+        ensures { RunOr self.old self.new result }
+    {
+        self.row = self.rows.from;
+        let rows = Frame {
+            node: 0,
+            next: self.rows.from,
+            end: self.rows.to,
+            def: 0,
+        };
+        let found = self.chain_run(rows)?;
+        if let Some(run) = found {
+            self.rows.from += run.count;
         }
-        end = x.next + count;
-        node += 1;
+        Ok(found)
+    }
+
+    // A run of the slots that come next: of the innermost list's elements, or of rows.
+    pub fn run(&mut self) -> Result<Option<Stretch>, Fault>
+        requires { Ready self.old }
+        ensures { RunOr self.old self.new result }
+    {
+        if let Some(&innermost) = self.frames.last() {
+            let found = self.chain_run(innermost)?;
+            if let Some(run) = found {
+                pass(&mut self.frames, run.count);
+            }
+            Ok(found)
+        } else if self.rows.from < self.rows.to {
+            self.run_rows()
+        } else {
+            Ok(None)
+        }
     }
 }

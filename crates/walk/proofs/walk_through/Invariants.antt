@@ -1,15 +1,12 @@
-use Rattle.std.proofs.Common.{◌-◌, ◌≤◌, length}
-use Rattle.reading.specs.Slots.{inside, along}
-use Rattle.reading.specs.Trace.{trace}
-use Rattle.walk.specs.Walk.{WalkIn, Counted, rest}
+use Rattle.std.proofs.Common.{◌≤◌, length}
+use Rattle.walk.specs.Walk.{Counted, rows_trace, rest}
 use Rattle.walk.proofs.walk_through.Given as goal
 
-abbrev pub invariant-walk : goal.invariant-walk
-invariant-walk l =
-    WalkIn (along l.b) l.walk
-    × Counted l.entries l.values (rest (inside l.b) (along l.b) l.walk) (trace (inside l.b) (along l.b) l.from (l.to - l.from))
-    × (l.entries ≤ 2147483647)
-    × (l.values ≤ l.entries)
+abbrev pub invariant-loop-found : goal.invariant-loop-found
+invariant-loop-found l =
+    Counted l.counts.entries l.counts.values (rest l.walk) (rows_trace l.rows)
+    × (l.counts.entries ≤ 2147483647)
+    × (l.counts.values ≤ l.counts.entries)
 
-abbrev pub decreases-walk : goal.decreases-walk
-decreases-walk l = length (rest (inside l.b) (along l.b) l.walk).entries
+abbrev pub decreases-loop-found : goal.decreases-loop-found
+decreases-loop-found l = length (rest l.walk).entries

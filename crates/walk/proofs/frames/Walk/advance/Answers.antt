@@ -1,23 +1,17 @@
-use Rattle.std.proofs.Common.{◌-◌, set, Some, sym, refl, subst, arith}
-use Rattle.reading.specs.Slots.{inside, along}
-use Rattle.walk.specs.Walk.{Advanced, top}
-use Rattle.walk.proofs.Stack.{advance_frame, advance_row}
-use Rattle.walk.proofs.Stretches.{top_small}
+use Rattle.std.proofs.Common.{arith}
+use Rattle.walk.proofs.Stack.{top_is, top_none, advance_frame, advance_row}
 use Rattle.walk.proofs.frames.Walk.advance.Goals as goal
 
-pub pass-requires : goal.pass-requires
-pass-requires c =
-    let small = top_small (inside c.args.b) (along c.args.b) c.requires.sound c.args.self.now c.requires.walk c.if-self-gt0.true in
-    let more = c.requires.ready c.if-self-gt0.true in
-    omega arith
-
-pub returns-then-self-gt0 : goal.returns-then-self-gt0
-returns-then-self-gt0 c =
+pub returns-in-Some : goal.returns-in-Some
+returns-in-Some c =
     let w = c.args.self.now in
-    let x = top w in
-    subst (λ y. Advanced (inside c.args.b) (along c.args.b) w (record { frames = set w.frames (w.depth - 1) y; depth = w.depth; row = w.row; next = w.next; to = w.to })
-    (Some (record { node = x.node; slot = x.next; rep = w.depth; def = x.def }))) (sym c.pass.ensures)
-    (advance_frame (inside c.args.b) (along c.args.b) c.requires.sound w c.requires.walk c.if-self-gt0.true x refl (c.requires.ready c.if-self-gt0.true))
+    let x = c.in-Some.field-0.now in
+    let top = top_is w.frames.items c.deref.result.now x c.deref.ensures.0 c.in-Some.ensures.value in
+    advance_frame w c.pass.new.frames.items x c.len.result top.0 top.1 (c.requires top.0) c.pass.ensures c.len.ensures.value
 
-pub returns-then-self : goal.returns-then-self
-returns-then-self c = advance_row (inside c.args.b) (along c.args.b) c.requires.sound c.args.self.now c.requires.walk c.if-self-gt0.false c.if-self.true
+pub returns : goal.returns
+returns c =
+    let w = c.args.self.now in
+    let none = top_none w.frames.items c.deref.result.now c.deref.ensures.0 c.in_default.ensures.value in
+    let order = w.rows.order in
+    advance_row w none (omega arith)

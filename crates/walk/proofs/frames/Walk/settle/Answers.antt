@@ -1,9 +1,10 @@
 use Rattle.std.proofs.Common.{◌∙◌}
-use Rattle.reading.specs.Slots.{inside, along}
-use Rattle.walk.proofs.Stack.{advance_pop}
+use Rattle.walk.proofs.Stack.{top_is, popped}
 use Rattle.walk.proofs.frames.Walk.settle.Goals as goal
 
-pub loop-self-preserved : goal.loop-self-preserved
-loop-self-preserved c =
-    let a = advance_pop (inside c.args.b) (along c.args.b) c.requires.sound c.loop-self.self c.loop-self.invariant.0 c.loop-self-test.true c.if-x.false in
-    (a.0, a.1 ∙ c.loop-self.invariant.1)
+pub loop-innermost-preserved : goal.loop-innermost-preserved
+loop-innermost-preserved c =
+    let w = c.loop-innermost.self in
+    let x = c.in-Some.innermost.now in
+    let top = top_is w.frames.items c.deref.result.now x c.deref.ensures.0 c.in-Some.ensures.value in
+    popped w c.pop.new.self.items x top.0 top.1 c.if-innermost.false c.pop.ensures.rest ∙ c.loop-innermost.invariant
