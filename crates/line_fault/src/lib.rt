@@ -1,14 +1,16 @@
 // What is wrong with a line of a job.
 #![tactic(auto)]
 
-ghost use Rattle.std.specs.Prelude.{◌≡◌};
+ghost use Rattle.std.specs.Prelude.{◌≡◌, Some};
 ghost use Rattle.line_fault.specs.Keys.{key_text};
+ghost use Rattle.line_fault.specs.declared.LineFault.TheVariants.{Memory};
 
 use std::alloc::{AllocError, AllocFailed};
 use std::fmt;
+use thiserror::Error;
 
 // What a part of a statement is called.
-#[derive(Clone, Copy, Drop)]
+#[derive(Clone, Copy, Debug, PartialEq, Eq)]
 pub enum Key {
     Leaf,
     Rows,
@@ -43,60 +45,53 @@ impl Key {
     }
 }
 
+impl fmt::Display for Key {
+    ghost output = { λ key. Some (key_text key) };
+
+    fn fmt<W: fmt::Write>(&self, f: &mut fmt::Formatter<W>) -> fmt::Result {
+        f.write_str(self.word())
+    }
+}
+
 // It holds no text of the line: who shows it shows the line beside it.
-#[derive(Clone, Copy, Drop)]
+#[derive(Clone, Copy, Debug, PartialEq, Eq, Error)]
 pub enum LineFault {
+    #[error("no statement begins with this word")]
     UnknownStatement,
+    #[error("word {0} is no part of this statement")]
     Misplaced(usize),
+    #[error("{0} is missing")]
     Missing(Key),
+    #[error("{0} is given twice")]
     Twice(Key),
+    #[error("{0} is not a number")]
     NotANumber(Key),
+    #[error("{0} is too large")]
     TooLarge(Key),
+    #[error("{0} is not a range FROM..TO")]
     NotARange(Key),
+    #[error("{0} is not UTF-8 text")]
     NotText(Key),
+    #[error("a byte is not two hexadecimal digits")]
     NotAByte,
+    #[error("a node is neither required nor nullable")]
     NotNullability,
+    #[error("there is not enough memory")]
     Memory,
 }
 
 impl From<AllocError> for LineFault {
+    ghost from_gives = { λ _ fault. fault ≡ Memory };
+
     fn from(_e: AllocError) -> LineFault {
         LineFault::Memory
     }
 }
 
 impl<T: Drop> From<AllocFailed<T>> for LineFault {
+    ghost from_gives = { λ _ fault. fault ≡ Memory };
+
     fn from(_e: AllocFailed<T>) -> LineFault {
         LineFault::Memory
-    }
-}
-
-// The part that is at fault, and what is wrong with it; or all of the message.
-fn words(fault: LineFault) -> (Option<Key>, &'static str) {
-    match fault {
-        LineFault::UnknownStatement => (None, "no statement begins with this word"),
-        LineFault::Misplaced(_) => (None, " is no part of this statement"),
-        LineFault::Missing(key) => (Some(key), " is missing"),
-        LineFault::Twice(key) => (Some(key), " is given twice"),
-        LineFault::NotANumber(key) => (Some(key), " is not a number"),
-        LineFault::TooLarge(key) => (Some(key), " is too large"),
-        LineFault::NotARange(key) => (Some(key), " is not a range FROM..TO"),
-        LineFault::NotText(key) => (Some(key), " is not UTF-8 text"),
-        LineFault::NotAByte => (None, "a byte is not two hexadecimal digits"),
-        LineFault::NotNullability => (None, "a node is neither required nor nullable"),
-        LineFault::Memory => (None, "there is not enough memory"),
-    }
-}
-
-impl fmt::Display for LineFault {
-    fn fmt<W: fmt::Write>(&self, f: &mut fmt::Formatter<W>) -> fmt::Result {
-        if let LineFault::Misplaced(place) = self {
-            write!(f, "word {place}")?;
-        }
-        let (key, message) = words(*self);
-        if let Some(key) = key {
-            f.write_str(key.word())?;
-        }
-        f.write_str(message)
     }
 }

@@ -1,27 +1,30 @@
 -- A comment is found at the first '#'. Assumes nothing.
-use Rattle.std.proofs.Common.{◌≡◌, ℕ, ◌+◌, ◌-◌, ◌<◌, ◌≤◌, Bool, false, cond, eqb, List, [], ◌∷◌, ◌++◌, length, get_or, take, drop, sym, refl, ap, ◌∙◌, subst, arith, rules}
-use Rattle.std.proofs.lemmas.List.{append-nil, append_assoc, take_all, take_more, drop_more, drop_all}
+use Rattle.std.proofs.Common.{◌≡◌, ℕ, ◌+◌, ◌≤◌, Bool, true, false, cond, not, eqb, ltb, List, [], ◌∷◌, length, take, Some, None, sym, refl, ap, ◌∙◌, arith}
+use Rattle.std.specs.List.{before_first, position_or_len, position}
+use Rattle.std.proofs.lemmas.List.{take_all}
+use Rattle.std.proofs.lemmas.Bool.Decides.{nat_tests}
+use Rattle.std.proofs.lemmas.Grind.{common_steps}
 use Rattle.words.specs.Words.{uncommented}
 
-at_hash : (b : ℕ) (bs : List ℕ) → b ≡ 35 → uncommented (b ∷ bs) ≡ []
-at_hash b bs e = subst (λ (x : ℕ). uncommented (x ∷ bs) ≡ []) (sym e) refl
+one_byte : (hash : Bool) (b n : ℕ) (bs : List ℕ) → take (cond (not hash) (1 + n) 0) (b ∷ bs) ≡ cond hash [] (b ∷ take n bs)
+one_byte true b n bs = refl
+one_byte false b n bs = grind (arith, common_steps)
 
-before_hash : (b : ℕ) (bs : List ℕ) → (b ≡ 35 → ⊥) → uncommented (b ∷ bs) ≡ b ∷ uncommented bs
-before_hash b bs other =
-    let e : eqb b 35 ≡ false = search rules in
-    subst (λ (v : Bool). cond v [] (b ∷ uncommented bs) ≡ b ∷ uncommented bs) (sym e) refl
+before_first-hash : (bs : List ℕ) → before_first (λ b. eqb b 35) bs ≡ uncommented bs
+before_first-hash [] = refl
+before_first-hash (b ∷ bs) =
+    one_byte (eqb b 35) b (position_or_len (λ b. eqb b 35) bs) bs ∙ ap (λ (t : List ℕ). cond (eqb b 35) [] (b ∷ t)) (before_first-hash bs)
 
-pub cut_here : (xs : List ℕ) (i : ℕ) → i < length xs → get_or xs i 0 ≡ 35 → take i xs ++ uncommented (drop i xs) ≡ uncommented xs → take (i - 0) xs ≡ uncommented xs
-cut_here xs i lt e inv =
-    let none : uncommented (drop i xs) ≡ [] = ap uncommented (drop_more xs i 0 lt) ∙ at_hash (get_or xs i 0) (drop (i + 1) xs) e in
-    let same : i - 0 ≡ i = omega arith in
-    ap (λ (n : ℕ). take n xs) same ∙ sym (append-nil (take i xs)) ∙ ap (λ (t : List ℕ). take i xs ++ t) (sym none) ∙ inv
+place : (found : Bool) (i n : ℕ) → Some i ≡ cond found (Some n) None → i ≡ n
+place true i n e = cc
+place false i n e = cc
 
-pub cut_later : (xs : List ℕ) (i : ℕ) → i < length xs → (get_or xs i 0 ≡ 35 → ⊥) → take i xs ++ uncommented (drop i xs) ≡ uncommented xs → take (i + 1) xs ++ uncommented (drop (i + 1) xs) ≡ uncommented xs
-cut_later xs i lt other inv =
-    let more : uncommented (drop i xs) ≡ get_or xs i 0 ∷ uncommented (drop (i + 1) xs) = ap uncommented (drop_more xs i 0 lt) ∙ before_hash (get_or xs i 0) (drop (i + 1) xs) other in
-    ap (λ (t : List ℕ). t ++ uncommented (drop (i + 1) xs)) (take_more xs i 0 lt) ∙ append_assoc (take i xs) (get_or xs i 0 ∷ []) (uncommented (drop (i + 1) xs)) ∙ ap (λ (t : List ℕ). take i xs ++ t) (sym more) ∙ inv
+no_place : (len n : ℕ) → None ≡ cond (ltb n len) (Some n) None → len ≤ n
+no_place len n e = grind (arith, nat_tests)
 
-pub cut_never : (xs : List ℕ) (i : ℕ) → length xs ≤ i → take i xs ++ uncommented (drop i xs) ≡ uncommented xs → xs ≡ uncommented xs
-cut_never xs i le inv =
-    sym (take_all i xs le) ∙ sym (append-nil (take i xs)) ∙ ap (λ (t : List ℕ). take i xs ++ uncommented t) (sym (drop_all i xs le)) ∙ inv
+-- what `position` says of it
+pub cut_at : (bs : List ℕ) (i : ℕ) → Some i ≡ position (λ b. eqb b 35) bs → take i bs ≡ uncommented bs
+cut_at bs i e = ap (λ (n : ℕ). take n bs) (place _ i _ e) ∙ before_first-hash bs
+
+pub cut_nowhere : (bs : List ℕ) → None ≡ position (λ b. eqb b 35) bs → bs ≡ uncommented bs
+cut_nowhere bs e = sym (take_all _ bs (no_place (length bs) _ e)) ∙ before_first-hash bs

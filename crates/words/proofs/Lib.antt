@@ -1,4 +1,3 @@
 mod Comments
 mod Comparing
 mod Parting
-mod Pushing

@@ -1,85 +1,46 @@
--- One byte more of a text that is parted at blanks. Assumes nothing.
-use Rattle.std.proofs.Common.{◌≡◌, ℕ, ◌+◌, ◌-◌, ◌<◌, ◌≤◌, Bool, true, false, cond, List, [], ◌∷◌, ◌++◌, length, get_or, take, drop, sym, refl, ap, ◌∙◌, subst, arith}
-use Rattle.std.proofs.lemmas.List.{append-nil, append_assoc, take_all, take_more, drop_more, drop_all, drop-take, length-drop, length-take-le, drop-append-le}
+-- The words of a text are the pieces between its blanks that are not empty. Assumes nothing.
+use Rattle.std.proofs.Common.{◌≡◌, ℕ, Bool, true, false, cond, not, eqb, List, [], ◌∷◌, ◌++◌, length, sym, refl, ap, ◌∙◌, rules}
+use Rattle.std.specs.List.{filter, slice_split, onto_first}
+use Rattle.std.proofs.lemmas.List.{append-nil, append_assoc}
 use Rattle.words.specs.Words.{blank, ended, parted}
 
-at-blank : (word : List ℕ) (b : ℕ) (bs : List ℕ) → blank b ≡ true → parted word (b ∷ bs) ≡ ended word ++ parted [] bs
-at-blank word b bs e = subst (λ (v : Bool). cond v (ended word ++ parted [] bs) (parted (word ++ (b ∷ [])) bs) ≡ ended word ++ parted [] bs) (sym e) refl
+-- a piece is a word where it is not empty
+abbrev pub some_bytes : List ℕ → Bool
+some_bytes bs = not (eqb (length bs) 0)
 
-in_word : (word : List ℕ) (b : ℕ) (bs : List ℕ) → blank b ≡ false → parted word (b ∷ bs) ≡ parted (word ++ (b ∷ [])) bs
-in_word word b bs e = subst (λ (v : Bool). cond v (ended word ++ parted [] bs) (parted (word ++ (b ∷ [])) bs) ≡ parted (word ++ (b ∷ [])) bs) (sym e) refl
+-- the bytes of a word so far stand before the first piece
+abbrev onto : List ℕ → List (List ℕ) → List (List ℕ)
+onto word [] = word ∷ []
+onto word (p ∷ ps) = (word ++ p) ∷ ps
 
-ended_some : (word : List ℕ) → 0 < length word → ended word ≡ word ∷ []
-ended_some [] h = absurd (omega arith)
-ended_some (b ∷ bs) h = refl
+onto-onto_first : (word : List ℕ) (b : ℕ) (ps : List (List ℕ)) → onto word (onto_first b ps) ≡ onto (word ++ (b ∷ [])) ps
+onto-onto_first word b [] = refl
+onto-onto_first word b (p ∷ ps) = ap (λ (t : List ℕ). t ∷ ps) (sym (append_assoc word (b ∷ []) p))
 
--- the word from s on, up to i
-front_length : (xs : List ℕ) (s i : ℕ) → i ≤ length xs → length (drop s (take i xs)) ≡ i - s
-front_length xs s i le = length-drop s (take i xs) ∙ ap (λ (n : ℕ). n - s) (length-take-le i xs le)
+onto_nothing : (ends : Bool) (b : ℕ) (ps : List (List ℕ)) → onto [] (cond ends ([] ∷ ps) (onto_first b ps)) ≡ cond ends ([] ∷ ps) (onto_first b ps)
+onto_nothing true b ps = refl
+onto_nothing false b [] = refl
+onto_nothing false b (p ∷ ps) = refl
 
-none_yet : (xs : List ℕ) (s i : ℕ) → i ≤ length xs → i ≤ s → drop s (take i xs) ≡ []
-none_yet xs s i le h = drop_all s (take i xs) (omega (arith, length-take-le i xs le))
+onto_none : (bs : List ℕ) → onto [] (slice_split blank bs) ≡ slice_split blank bs
+onto_none [] = refl
+onto_none (b ∷ bs) = onto_nothing (blank b) b (slice_split blank bs)
 
-word_is : (xs : List ℕ) (s i : ℕ) → s ≤ i → take (i - s) (drop s xs) ≡ drop s (take i xs)
-word_is xs s i le =
-    let e : s + (i - s) ≡ i = omega arith in
-    sym (drop-take s (i - s) xs) ∙ ap (λ (n : ℕ). drop s (take n xs)) e
+filter-ended : (word : List ℕ) (ps : List (List ℕ)) → filter some_bytes (word ∷ ps) ≡ ended word ++ filter some_bytes ps
+filter-ended [] ps = refl
+filter-ended (b ∷ bs) ps =
+    let some : eqb (length (b ∷ bs)) 0 ≡ false = search rules in
+    ap (λ (none : Bool). cond (not none) ((b ∷ bs) ∷ filter some_bytes ps) (filter some_bytes ps)) some
 
--- what is left to read once the byte at i, a blank, has been read
-after-blank : (xs : List ℕ) (s i : ℕ) → i < length xs → blank (get_or xs i 0) ≡ true
-    → parted (drop s (take i xs)) (drop i xs) ≡ ended (drop s (take i xs)) ++ parted (drop (i + 1) (take (i + 1) xs)) (drop (i + 1) xs)
-after-blank xs s i lt e =
-    ap (λ (t : List ℕ). parted (drop s (take i xs)) t) (drop_more xs i 0 lt)
-    ∙ at-blank (drop s (take i xs)) (get_or xs i 0) (drop (i + 1) xs) e
-    ∙ ap (λ (w : List ℕ). ended (drop s (take i xs)) ++ parted w (drop (i + 1) xs)) (sym (none_yet xs (i + 1) (i + 1) (omega arith) (omega arith)))
+one_byte : (ends : Bool) (word : List ℕ) (b : ℕ) (ps more longer : List (List ℕ)) → filter some_bytes ps ≡ more → filter some_bytes (onto (word ++ (b ∷ [])) ps) ≡ longer
+    → filter some_bytes (onto word (cond ends ([] ∷ ps) (onto_first b ps))) ≡ cond ends (ended word ++ more) longer
+one_byte true word b ps more longer h k = ap (λ (w : List ℕ). filter some_bytes (w ∷ ps)) (append-nil word) ∙ filter-ended word ps ∙ ap (λ (t : List (List ℕ)). ended word ++ t) h
+one_byte false word b ps more longer h k = ap (filter some_bytes) (onto-onto_first word b ps) ∙ k
 
-pub at_word_end : (xs : List ℕ) (s i : ℕ) (done whole : List (List ℕ)) → i < length xs → s < i → blank (get_or xs i 0) ≡ true
-    → done ++ parted (drop s (take i xs)) (drop i xs) ≡ whole
-    → (done ++ (take (i - s) (drop s xs) ∷ [])) ++ parted (drop (i + 1) (take (i + 1) xs)) (drop (i + 1) xs) ≡ whole
-at_word_end xs s i done whole lt some e inv =
-    let tail : List (List ℕ) = parted (drop (i + 1) (take (i + 1) xs)) (drop (i + 1) xs) in
-    let w : ended (drop s (take i xs)) ≡ take (i - s) (drop s xs) ∷ [] = ended_some (drop s (take i xs)) (omega (arith, front_length xs s i (omega arith))) ∙ ap (λ (t : List ℕ). t ∷ []) (sym (word_is xs s i (omega arith))) in
-    append_assoc done (take (i - s) (drop s xs) ∷ []) tail
-    ∙ ap (λ (t : List (List ℕ)). done ++ (t ++ tail)) (sym w)
-    ∙ ap (λ (t : List (List ℕ)). done ++ t) (sym (after-blank xs s i lt e))
-    ∙ inv
+filter-onto : (word : List ℕ) (bs : List ℕ) → filter some_bytes (onto word (slice_split blank bs)) ≡ parted word bs
+filter-onto word [] = filter-ended (word ++ []) [] ∙ append-nil (ended (word ++ [])) ∙ ap ended (append-nil word)
+filter-onto word (b ∷ bs) =
+    one_byte (blank b) word b (slice_split blank bs) (parted [] bs) (parted (word ++ (b ∷ [])) bs) (ap (filter some_bytes) (sym (onto_none bs)) ∙ filter-onto [] bs) (filter-onto (word ++ (b ∷ [])) bs)
 
-pub at_no_word : (xs : List ℕ) (s i : ℕ) (done whole : List (List ℕ)) → i < length xs → i ≤ s → blank (get_or xs i 0) ≡ true
-    → done ++ parted (drop s (take i xs)) (drop i xs) ≡ whole
-    → done ++ parted (drop (i + 1) (take (i + 1) xs)) (drop (i + 1) xs) ≡ whole
-at_no_word xs s i done whole lt none e inv =
-    let tail : List (List ℕ) = parted (drop (i + 1) (take (i + 1) xs)) (drop (i + 1) xs) in
-    let w : ended (drop s (take i xs)) ≡ [] = ap ended (none_yet xs s i (omega arith) none) in
-    ap (λ (t : List (List ℕ)). done ++ (t ++ tail)) (sym w)
-    ∙ ap (λ (t : List (List ℕ)). done ++ t) (sym (after-blank xs s i lt e))
-    ∙ inv
-
-pub at_letter : (xs : List ℕ) (s i : ℕ) (done whole : List (List ℕ)) → i < length xs → s ≤ i → blank (get_or xs i 0) ≡ false
-    → done ++ parted (drop s (take i xs)) (drop i xs) ≡ whole
-    → done ++ parted (drop s (take (i + 1) xs)) (drop (i + 1) xs) ≡ whole
-at_letter xs s i done whole lt le e inv =
-    let longer : drop s (take (i + 1) xs) ≡ drop s (take i xs) ++ (get_or xs i 0 ∷ []) = ap (λ (t : List ℕ). drop s t) (take_more xs i 0 lt) ∙ drop-append-le s (take i xs) (get_or xs i 0 ∷ []) (omega (arith, length-take-le i xs (omega arith))) in
-    ap (λ (w : List ℕ). done ++ parted w (drop (i + 1) xs)) longer
-    ∙ ap (λ (t : List (List ℕ)). done ++ t) (sym (in_word (drop s (take i xs)) (get_or xs i 0) (drop (i + 1) xs) e))
-    ∙ ap (λ (t : List ℕ). done ++ parted (drop s (take i xs)) t) (sym (drop_more xs i 0 lt))
-    ∙ inv
-
-at_end : (xs : List ℕ) (s i : ℕ) (done whole : List (List ℕ)) → length xs ≤ i
-    → done ++ parted (drop s (take i xs)) (drop i xs) ≡ whole
-    → done ++ ended (drop s xs) ≡ whole
-at_end xs s i done whole le inv =
-    ap (λ (t : List ℕ). done ++ ended (drop s t)) (sym (take_all i xs le))
-    ∙ ap (λ (t : List ℕ). done ++ parted (drop s (take i xs)) t) (sym (drop_all i xs le))
-    ∙ inv
-
-pub last_word : (xs : List ℕ) (s i : ℕ) (done whole : List (List ℕ)) → length xs ≤ i → s < length xs
-    → done ++ parted (drop s (take i xs)) (drop i xs) ≡ whole
-    → done ++ (drop s xs ∷ []) ≡ whole
-last_word xs s i done whole le some inv =
-    ap (λ (t : List (List ℕ)). done ++ t) (sym (ended_some (drop s xs) (omega (arith, length-drop s xs)))) ∙ at_end xs s i done whole le inv
-
-pub no_last_word : (xs : List ℕ) (s i : ℕ) (done whole : List (List ℕ)) → length xs ≤ i → length xs ≤ s
-    → done ++ parted (drop s (take i xs)) (drop i xs) ≡ whole
-    → done ≡ whole
-no_last_word xs s i done whole le none inv =
-    sym (append-nil done) ∙ ap (λ (t : List ℕ). done ++ ended t) (sym (drop_all s xs none)) ∙ at_end xs s i done whole le inv
+pub parted_is : (bs : List ℕ) → filter some_bytes (slice_split blank bs) ≡ parted [] bs
+parted_is bs = ap (filter some_bytes) (sym (onto_none bs)) ∙ filter-onto [] bs

@@ -1,12 +1,13 @@
-use Rattle.std.proofs.Common.{rules}
-use Rattle.words.proofs.Comments.{cut_here, cut_later, cut_never}
+use Rattle.std.proofs.Common.{eqb, sym, ◌∙◌, rules, tests}
+use Rattle.std.proofs.lemmas.Iterator.{YieldsList-from_slice}
+use Rattle.std.proofs.lemmas.Iterator.Search.{position_from_yields_List}
+use Rattle.words.proofs.Comments.{cut_at, cut_nowhere}
 use Rattle.words.proofs.before_comment.Goals as goal
 
-pub returns-then-line-i-eq35 : goal.returns-then-line-i-eq35
-returns-then-line-i-eq35 c = cut_here c.args.line.now c.loop-i.i (search rules) (search rules) c.loop-i.invariant
+pub returns-in-Some : goal.returns-in-Some
+returns-in-Some c =
+    cut_at _ _ (sym c.in-Some.is ∙ position_from_yields_List (λ b. eqb b 35) _ _ c.position.result c.position.ensures.ran (YieldsList-from_slice c.args.line.now cc) (λ x b q k. search (rules, tests)))
 
-pub loop-i-preserved : goal.loop-i-preserved
-loop-i-preserved c = cut_later c.args.line.now c.loop-i.i (search rules) (search rules) c.loop-i.invariant
-
-pub returns : goal.returns
-returns c = cut_never c.args.line.now c.loop-i.i (search rules) c.loop-i.invariant
+pub returns-in-None : goal.returns-in-None
+returns-in-None c =
+    cut_nowhere _ (sym c.in-None.is ∙ position_from_yields_List (λ b. eqb b 35) _ _ c.position.result c.position.ensures.ran (YieldsList-from_slice c.args.line.now cc) (λ x b q k. search (rules, tests)))

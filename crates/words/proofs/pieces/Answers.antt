@@ -1,19 +1,12 @@
-use Rattle.std.proofs.Common.{vec_items, refl, ap, ◌∙◌, rules}
-use Rattle.words.proofs.Pushing.{word_ends, no_word_ends, word_goes_on, with_last, without_last}
+use Rattle.std.proofs.Common.{ap, ◌∙◌, rules, tests}
+use Rattle.std.specs.Slice.Iter.{split_rest, split_done, split_callee}
+use Rattle.std.proofs.lemmas.Iterator.Splits.{YieldsList-from_slice_split}
+use Rattle.std.proofs.lemmas.Iterator.Consumers.{map_from_collect, YieldsList-from_filter}
+use Rattle.words.specs.Words.{blank}
+use Rattle.words.proofs.Parting.{some_bytes, parted_is}
 use Rattle.words.proofs.pieces.Goals as goal
-use Rattle.words.proofs.pieces.Goals.{then-is_blank, else-is_blank, then-start-i+in_ok-push, else-start-i, then-start-text+in_ok-push-2, else-start-text}
-
-pub loop-i-preserved : goal.loop-i-preserved
-loop-i-preserved c = elim c.if-is_blank.branch [
-  | then-is_blank w ↦ elim w.if-start-i.branch [
-    | then-start-i+in_ok-push v ↦ word_ends c.args.text.now c.loop-i.start c.loop-i.i _ (vec_items c.loop-i.words) (vec_items c.if-is_blank.words) _ c.loop-i-test.true v.if-start-i.true (search rules) w.start-is (ap vec_items (w.words-is ∙ v.words-is) ∙ v.in_ok-push.ensures.items) refl c.loop-i.invariant
-    | else-start-i v ↦ no_word_ends c.args.text.now c.loop-i.start c.loop-i.i _ (vec_items c.loop-i.words) (vec_items c.if-is_blank.words) c.loop-i-test.true v.if-start-i.false (search rules) w.start-is (ap vec_items (w.words-is ∙ v.words-is)) c.loop-i.invariant
-  ]
-  | else-is_blank w ↦ word_goes_on c.args.text.now c.loop-i.start c.loop-i.i _ (vec_items c.loop-i.words) (vec_items c.if-is_blank.words) c.loop-i-test.true (search rules) w.start-is (ap vec_items w.words-is) c.loop-i.invariant
-]
 
 pub returns : goal.returns
-returns c = elim c.if-start-text.branch [
-  | then-start-text+in_ok-push-2 w ↦ with_last c.args.text.now c.loop-i.start c.loop-i.i (vec_items c.loop-i.words) (vec_items c.if-start-text.words) _ c.loop-i-test.false w.if-start-text.true (ap vec_items w.words-is ∙ w.in_ok-push-2.ensures.items) refl c.loop-i.invariant
-  | else-start-text w ↦ without_last c.args.text.now c.loop-i.start c.loop-i.i (vec_items c.loop-i.words) (vec_items c.if-start-text.words) c.loop-i-test.false w.if-start-text.false (ap vec_items w.words-is) c.loop-i.invariant
-]
+returns c =
+    let split = c.filter.ensures.source in
+    rw (parted_is c.args.text.now) at (map_from_collect _ c.collect.ensures.ran (YieldsList-from_filter _ some_bytes (YieldsList-from_slice_split _ blank c.args.text.now (ap split_rest split ∙ c.split.ensures.rest) (ap split_done split ∙ c.split.ensures.done) (ap split_callee split ∙ c.split.ensures.closure) (λ x b q k. search rules)) c.filter.ensures.closure (λ x b q k. search (rules, tests))))
