@@ -1,5 +1,7 @@
 -- What the parts of an accepted statement are. Assumes nothing.
 use Rattle.std.specs.Prelude.{◌≡◌, ℕ, Bool, true, List, [], ◌∷◌, Some, None, Ok, Err, vec_items, string_bytes, codes, Option, Result}
+use Rattle.std.specs.Borrow.{Bor}
+use Rattle.std.specs.Fn.{Shared, FnReturnsAt}
 use Rattle.line_fault.specs.declared.Key.{Key}
 use Rattle.line_fault.specs.declared.Key.TheVariants.{Leaf, Rows, Parent, Slots, Size, Validity, Offsets, Sizes, Name, Offset}
 use Rattle.line_fault.specs.declared.LineFault.{LineFault}
@@ -50,6 +52,10 @@ Each means [] [] = ⊥ → ⊥
 Each means [] (x ∷ xs) = ⊥
 Each means (w ∷ ws) [] = ⊥
 Each means (w ∷ ws) (x ∷ xs) = means w (Ok x) × Each means ws xs
+
+-- each word says the item that `read` may give of it
+pub record ReadsEach {F X : Type 0} (g : Shared F (Bor (List ℕ) × Unit {0}) (Result X LineFault)) (read : F) (ws : List (List ℕ)) (xs : List X) : Type 0 where
+  pub items : Each (FnReturnsAt g read) ws xs
 
 -- the first word tells the statement, and those behind it what it holds
 abbrev pub Says : List ℕ → List (List ℕ) → Statement → Type 0

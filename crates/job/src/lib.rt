@@ -1,74 +1,57 @@
 // Reads one line of a job.
 #![tactic(auto)]
 
-ghost use Rattle.std.specs.Prelude.{◌≡◌, [], map, IfOk, OnOk};
-ghost use Rattle.line_fault.specs.declared.Key.TheVariants.{Offset};
+ghost use Rattle.std.specs.Prelude.{◌≡◌, [], IfOk, OnOk};
 ghost use Rattle.words.specs.Words.{words_of};
-ghost use Rattle.part.specs.Reads.{ByteRead, Signed};
-ghost use Rattle.job.specs.Lines.{MeasureRead, NodeRead, NodeSays, Each, Says, LineSays};
+ghost use Rattle.job.specs.Lines.{MeasureRead, NodeRead, NodeSays, ReadsEach, Says, LineSays};
 
-use keyed::{
-    name_given, number_given, number_needed, number_or, number8_or, number32_or, only, range_needed,
-};
+use keyed::{name_given, needed, only, optional, value_or};
 use line_fault::{Key, LineFault};
+use part::Value;
 use statement::{Action, NamedNode, Statement};
 use std::alloc::Global;
 use table::Node;
-use words::{is_word, words_of};
+use words::{Words, is_word, words_of};
 
-fn validity(heap: Global, words: &[&[u8]]) -> Result<Vec<u8>, LineFault>
-    ensures { IfOk result (λ v. Each ByteRead (map (λ w. w.now) words.now) v.items) }
+// An item for each word.
+fn each<T: Drop, F: Fn(&[u8]) -> Result<T, LineFault>>(
+    heap: Global,
+    words: &Words,
+    read: F,
+) -> Result<Vec<T>, LineFault>
+    requires { F.IsAlwaysCallable read }
+    ensures { IfOk result (λ v. ReadsEach F.Fn read words.now v.items) }
 {
-    let mut bytes = Vec::new(heap);
-    for word in words {
-        bytes.push(part::byte(word)?)?;
+    let mut items = Vec::new(heap);
+    for word in words.texts() {
+        items.push(read(word)?)?;
     }
-    Ok(bytes)
+    Ok(items)
 }
 
-fn offsets32(heap: Global, words: &[&[u8]]) -> Result<Vec<i32>, LineFault>
-    ensures { IfOk result (λ v. Each (Signed 32 Offset) (map (λ w. w.now) words.now) v.items) }
-{
-    let mut offsets = Vec::new(heap);
-    for word in words {
-        offsets.push(part::signed32(word, Key::Offset)?)?;
-    }
-    Ok(offsets)
-}
-
-fn offsets64(heap: Global, words: &[&[u8]]) -> Result<Vec<i64>, LineFault>
-    ensures { IfOk result (λ v. Each (Signed 64 Offset) (map (λ w. w.now) words.now) v.items) }
-{
-    let mut offsets = Vec::new(heap);
-    for word in words {
-        offsets.push(part::signed64(word, Key::Offset)?)?;
-    }
-    Ok(offsets)
-}
-
-fn measure(words: &[&[u8]]) -> Result<Action, LineFault>
-    ensures { IfOk result (λ a. MeasureRead (map (λ w. w.now) words.now) a) }
+fn measure(words: &Words) -> Result<Action, LineFault>
+    ensures { IfOk result (λ a. MeasureRead words.now a) }
 {
     only(words, 1, &[Key::Leaf, Key::Rows])?;
     Ok(Action::Measure {
-        leaf: number_needed(words, Key::Leaf)?,
-        rows: range_needed(words, Key::Rows)?,
+        leaf: needed(words, Key::Leaf)?,
+        rows: needed(words, Key::Rows)?,
     })
 }
 
 // The parts of a node behind its kind and nullability.
-fn node_parts(kind: u8, nullable: bool, words: &[&[u8]]) -> Result<Node, LineFault>
-    ensures { IfOk result (λ n. NodeRead kind nullable (map (λ w. w.now) words.now) n) }
+fn node_parts(kind: u8, nullable: bool, words: &Words) -> Result<Node, LineFault>
+    ensures { IfOk result (λ n. NodeRead kind nullable words.now n) }
 {
     Ok(Node {
         kind,
         nullable,
-        parent: number8_or(words, Key::Parent, 255)?,
-        slots: number32_or(words, Key::Slots, 0)?,
-        size: number32_or(words, Key::Size, 0)?,
-        validity: number_given(words, Key::Validity)?,
-        offsets: number_or(words, Key::Offsets, 0)?,
-        sizes: number_or(words, Key::Sizes, 0)?,
+        parent: value_or(words, Key::Parent, 255)?,
+        slots: value_or(words, Key::Slots, 0)?,
+        size: value_or(words, Key::Size, 0)?,
+        validity: optional(words, Key::Validity)?,
+        offsets: value_or(words, Key::Offsets, 0)?,
+        sizes: value_or(words, Key::Sizes, 0)?,
     })
 }
 
@@ -82,49 +65,50 @@ const NODE_KEYS: [Key; 7] = [
     Key::Name,
 ];
 
-fn node(heap: Global, words: &[&[u8]]) -> Result<NamedNode, LineFault>
-    ensures { IfOk result (λ n. NodeSays (map (λ w. w.now) words.now) n) }
+fn node(heap: Global, words: &Words) -> Result<NamedNode, LineFault>
+    ensures { IfOk result (λ n. NodeSays words.now n) }
 {
-    match words {
-        [] => Err(LineFault::Missing(Key::Kind)),
-        [kind] => {
-            part::kind(kind)?;
-            Err(LineFault::NotNullability)
-        }
-        [kind, nullable, words @ ..] => {
-            let kind = part::kind(kind)?;
-            let nullable = part::nullable(nullable)?;
-            only(words, 3, &NODE_KEYS)?;
-            Ok(NamedNode {
-                node: node_parts(kind, nullable, words)?,
-                name: name_given(heap, words)?,
-            })
-        }
-    }
+    let [kind, behind @ ..] = words.texts() else {
+        return Err(LineFault::Missing(Key::Kind));
+    };
+    let kind = part::kind(kind)?;
+    let [nullable, behind @ ..] = behind else {
+        return Err(LineFault::NotNullability);
+    };
+    let nullable = part::nullable(nullable)?;
+    let parts = Words::new(behind);
+    only(&parts, 3, &NODE_KEYS)?;
+    Ok(NamedNode {
+        node: node_parts(kind, nullable, &parts)?,
+        name: name_given(heap, &parts)?,
+    })
 }
 
 // Refuses words behind a statement that has no parts.
-fn alone(words: &[&[u8]]) -> Result<(), LineFault>
-    ensures { OnOk result ((map (λ w. w.now) words.now) ≡ []) }
+fn alone(words: &Words) -> Result<(), LineFault>
+    ensures { OnOk result (words.now ≡ []) }
 {
-    if words.is_empty() {
+    if words.texts().is_empty() {
         Ok(())
     } else {
         Err(LineFault::Misplaced(2))
     }
 }
 
-fn statement_of(heap: Global, first: &[u8], words: &[&[u8]]) -> Result<Statement, LineFault>
-    ensures { IfOk result (λ s. Says first.now (map (λ w. w.now) words.now) s) }
+// Not a `match` on byte strings: it tests byte by byte in a tree, whose proof did not close.
+fn statement_of(heap: Global, first: &[u8], words: &Words) -> Result<Statement, LineFault>
+    ensures { IfOk result (λ s. Says first.now words.now s) }
 {
     if is_word(first, b"node") {
         Ok(Statement::Node(node(heap, words)?))
     } else if is_word(first, b"validity") {
-        Ok(Statement::Validity(validity(heap, words)?))
+        Ok(Statement::Validity(each(heap, words, part::byte)?))
     } else if is_word(first, b"offsets32") {
-        Ok(Statement::Offsets32(offsets32(heap, words)?))
+        let offset = |text: &[u8]| i32::read(text, Key::Offset);
+        Ok(Statement::Offsets32(each(heap, words, offset)?))
     } else if is_word(first, b"offsets64") {
-        Ok(Statement::Offsets64(offsets64(heap, words)?))
+        let offset = |text: &[u8]| i64::read(text, Key::Offset);
+        Ok(Statement::Offsets64(each(heap, words, offset)?))
     } else if is_word(first, b"clear") {
         alone(words)?;
         Ok(Statement::Clear)
@@ -145,6 +129,6 @@ pub fn parse(heap: Global, line: &[u8]) -> Result<Option<Statement>, LineFault>
     let words = words_of(heap, line)?;
     match words.as_slice() {
         [] => Ok(None),
-        [first, words @ ..] => Ok(Some(statement_of(heap, first, words)?)),
+        [first, behind @ ..] => Ok(Some(statement_of(heap, first, &Words::new(behind))?)),
     }
 }

@@ -1,7 +1,7 @@
 -- The values of the words of a key, word by word. Assumes nothing.
-use Rattle.std.proofs.Common.{◌≡◌, ℕ, ◌+◌, ◌<◌, ◌≤◌, true, false, List, [], ◌∷◌, ◌++◌, map, length, get_or, take, drop, is_some, Some, None, Ok, Err, Option, sym, refl, ap, ◌∙◌, Bor, rules}
+use Rattle.std.proofs.Common.{◌≡◌, ℕ, ◌+◌, ◌<◌, true, false, List, [], ◌∷◌, ◌++◌, map, length, get_or, take, drop, is_some, Some, None, Err, Option, sym, refl, ap, ◌∙◌, Bor, rules}
 use Rattle.std.specs.Option.{option_map}
-use Rattle.std.proofs.lemmas.List.{append-nil, append_assoc, take_all, take-append-drop, map-append, map_more}
+use Rattle.std.proofs.lemmas.List.{append-nil, append_assoc, take-append-drop, map-append, map_more}
 use Rattle.line_fault.specs.declared.Key.{Key}
 use Rattle.line_fault.specs.declared.LineFault.TheVariants.{Twice}
 use Rattle.keyed.specs.Keyed.{as_list, value_of, values, Given}
@@ -44,20 +44,13 @@ none_found key ws i d found later lt e h inv =
     ∙ inv
     ∙ ap (λ (o : Option (Bor (List ℕ))). as_list (option_map (λ x. x.now) o)) (sym e)
 
-whole : (key : Key) (ws : List (Bor (List ℕ))) (i : ℕ) → length ws ≤ i → values key (texts ws) ≡ values key (texts (take i ws))
-whole key ws i le = ap (λ (l : List (Bor (List ℕ))). values key (texts l)) (sym (take_all i ws le))
-
-pub all_found : (key : Key) (ws : List (Bor (List ℕ))) (i : ℕ) (found : Option (Bor (List ℕ))) → length ws ≤ i → Found key ws i found → Given key (values key (map (λ w. w.now) ws)) (Ok found)
-all_found key ws i None le inv = whole key ws i le ∙ inv
-all_found key ws i (Some v) le inv = whole key ws i le ∙ inv
-
 apart : (key : Key) (ws : List (Bor (List ℕ))) (i : ℕ) → values key (texts ws) ≡ values key (texts (take i ws)) ++ values key (texts (drop i ws))
 apart key ws i =
     ap (λ (l : List (Bor (List ℕ))). values key (texts l)) (sym (take-append-drop i ws))
     ∙ ap (λ (t : List (List ℕ)). values key t) (map-append (λ (w : Bor (List ℕ)). w.now) (take i ws) (drop i ws))
     ∙ values-append key (texts (take i ws)) (texts (drop i ws))
 
-pub second_found : (key : Key) (ws : List (Bor (List ℕ))) (i : ℕ) (d v : Bor (List ℕ)) (found : Option (Bor (List ℕ))) → i < length ws → is_some found ≡ true → Some v.now ≡ value_of key (get_or ws i d).now → Found key ws i found → Given key (values key (map (λ w. w.now) ws)) (Err (Twice key))
-second_found key ws i d v None lt some h inv = absurd (search rules)
-second_found key ws i d v (Some u) lt some h inv =
-    (u.now, v.now, values key (texts (drop (i + 1) ws)), apart key ws (i + 1) ∙ ap (λ (t : List (List ℕ)). t ++ values key (texts (drop (i + 1) ws))) (after-some key ws i d v (Some u) lt h inv), refl)
+pub second_found : (key : Key) (ws : List (Bor (List ℕ))) (said : List (List ℕ)) (i : ℕ) (d v : Bor (List ℕ)) (found : Option (Bor (List ℕ))) → texts ws ≡ said → i < length ws → is_some found ≡ true → Some v.now ≡ value_of key (get_or ws i d).now → Found key ws i found → Given key (values key said) (Err (Twice key))
+second_found key ws said i d v None same lt some h inv = absurd (search rules)
+second_found key ws said i d v (Some u) same lt some h inv =
+    (u.now, v.now, values key (texts (drop (i + 1) ws)), ap (values key) (sym same) ∙ apart key ws (i + 1) ∙ ap (λ (t : List (List ℕ)). t ++ values key (texts (drop (i + 1) ws))) (after-some key ws i d v (Some u) lt h inv), refl)

@@ -1,58 +1,44 @@
--- The first word that is none of the keys', word by word. Assumes nothing.
-use Rattle.std.proofs.Common.{◌≡◌, ℕ, ◌+◌, ◌-◌, ◌^◌, ◌<◌, ◌≤◌, min, Bool, true, false, cond, List, map, length, get_or, drop, is_some, Some, None, Option, sym, ap, ◌∙◌, subst, arith, Bor}
-use Rattle.std.specs.Option.{option_map}
-use Rattle.std.proofs.lemmas.List.{drop_more, drop_all}
+-- The first word that is none of the keys', by its place. Assumes nothing.
+use Rattle.std.proofs.Common.{◌≡◌, ℕ, suc, ◌+◌, ◌-◌, ◌^◌, min, Bool, true, false, cond, not, ltb, ◌||◌, List, [], ◌∷◌, map, length, is_some, Some, None, Option, sym, refl, ap, ◌∙◌, subst, arith, Bor}
+use Rattle.std.specs.List.{list_any, position, position_or_len}
+use Rattle.std.proofs.lemmas.Bool.Decides.{nat_tests}
 use Rattle.line_fault.specs.declared.Key.{Key}
 use Rattle.line_fault.specs.declared.LineFault.TheVariants.{Misplaced}
 use Rattle.keyed.specs.Keyed.{value_of, one_of, misplaced, Told}
 
-some_is : (o : Option (Bor (List ℕ))) (p : Option (List ℕ)) (b : Bool) → option_map (λ x. x.now) o ≡ p → b ≡ is_some o → b ≡ is_some p
-some_is None p b e h = h ∙ ap is_some e
-some_is (Some x) p b e h = h ∙ ap is_some e
+one_key : (b c : Bool) → (b || c) ≡ cond b true c
+one_key true c = refl
+one_key false c = refl
 
-key_more : (keys : List Key) (word : List ℕ) (i : ℕ) (d : Key) → i < length keys → one_of (drop i keys) word ≡ cond (is_some (value_of (get_or keys i d) word)) true (one_of (drop (i + 1) keys) word)
-key_more keys word i d lt = ap (λ (l : List Key). one_of l word) (drop_more keys i d lt)
+pub list_any-one_of : (keys : List Key) (word : List ℕ) → list_any (λ key. is_some (value_of key word)) keys ≡ one_of keys word
+list_any-one_of [] word = refl
+list_any-one_of (key ∷ keys) word =
+    one_key (is_some (value_of key word)) (list_any (λ key. is_some (value_of key word)) keys) ∙ ap (λ (b : Bool). cond (is_some (value_of key word)) true b) (list_any-one_of keys word)
 
-pub key_fits : (keys : List Key) (word : List ℕ) (i : ℕ) (d : Key) (o : Option (Bor (List ℕ))) → i < length keys → option_map (λ x. x.now) o ≡ value_of (get_or keys i d) word → true ≡ is_some o → one_of (drop i keys) word ≡ one_of keys word → true ≡ one_of keys word
-key_fits keys word i d o lt e t inv =
-    let h : true ≡ is_some (value_of (get_or keys i d) word) = some_is o (value_of (get_or keys i d) word) true e t in
-    ap (λ (b : Bool). cond b true (one_of (drop (i + 1) keys) word)) h ∙ sym (key_more keys word i d lt) ∙ inv
+abbrev pub is_other : List Key → Bor (List ℕ) → Bool
+is_other keys w = not (one_of keys w.now)
 
-pub key_other : (keys : List Key) (word : List ℕ) (i : ℕ) (d : Key) (o : Option (Bor (List ℕ))) → i < length keys → option_map (λ x. x.now) o ≡ value_of (get_or keys i d) word → false ≡ is_some o → one_of (drop i keys) word ≡ one_of keys word → one_of (drop (i + 1) keys) word ≡ one_of keys word
-key_other keys word i d o lt e t inv =
-    let h : false ≡ is_some (value_of (get_or keys i d) word) = some_is o (value_of (get_or keys i d) word) false e t in
-    ap (λ (b : Bool). cond b true (one_of (drop (i + 1) keys) word)) h ∙ sym (key_more keys word i d lt) ∙ inv
+one_word : (fits : Bool) (n k len : ℕ) (later : Option ℕ) → later ≡ cond (ltb k len) (Some (n + 1 + (k + 1))) None
+    → cond fits later (Some (n + 1)) ≡ cond (ltb (cond (not (not fits)) (1 + k) 0) (suc len)) (Some (n + (cond (not (not fits)) (1 + k) 0 + 1))) None
+one_word true n k len later h = grind (arith, nat_tests)
+one_word false n k len later h = grind (arith, nat_tests)
 
-pub no_key : (keys : List Key) (word : List ℕ) (i : ℕ) → length keys ≤ i → one_of (drop i keys) word ≡ one_of keys word → false ≡ one_of keys word
-no_key keys word i le inv = ap (λ (l : List Key). one_of l word) (sym (drop_all i keys le)) ∙ inv
+misplaced-is : (keys : List Key) (n : ℕ) (ws : List (Bor (List ℕ))) → misplaced keys n (map (λ w. w.now) ws) ≡ cond (ltb (position_or_len (is_other keys) ws) (length ws)) (Some (n + (position_or_len (is_other keys) ws + 1))) None
+misplaced-is keys n [] = refl
+misplaced-is keys n (w ∷ ws) = one_word (one_of keys w.now) n (position_or_len (is_other keys) ws) (length ws) _ (misplaced-is keys (n + 1) ws)
 
--- the words before i are of the keys, and `place` is how many words stand before the one at i
-pub record Passed (keys : List Key) (before : ℕ) (ws : List (Bor (List ℕ))) (i place : ℕ) : Type 0 where
-  pub place_is : place ≡ min (before + i) (2 ^ 64 - 1)
-  pub rest : misplaced keys (before + i) (map (λ w. w.now) (drop i ws)) ≡ misplaced keys before (map (λ w. w.now) ws)
+place : (found : Bool) (i k before : ℕ) → Some i ≡ cond found (Some k) None → cond found (Some (before + (k + 1))) None ≡ Some (before + (i + 1))
+place true i k before e = ap (λ (n : ℕ). Some (before + (n + 1))) (sym (cc))
+place false i k before e = absurd (cc)
 
-word_more : (keys : List Key) (n : ℕ) (ws : List (Bor (List ℕ))) (i : ℕ) (d : Bor (List ℕ)) → i < length ws → misplaced keys n (map (λ w. w.now) (drop i ws)) ≡ cond (one_of keys (get_or ws i d).now) (misplaced keys (n + 1) (map (λ w. w.now) (drop (i + 1) ws))) (Some (n + 1))
-word_more keys n ws i d lt = ap (λ (l : List (Bor (List ℕ))). misplaced keys n (map (λ w. w.now) l)) (drop_more ws i d lt)
+no_place : (found : Bool) (k before : ℕ) → None ≡ cond found (Some k) None → cond found (Some (before + (k + 1))) None ≡ None
+no_place true k before e = absurd (cc)
+no_place false k before e = refl
 
-pub word_passed : (keys : List Key) (before : ℕ) (ws : List (Bor (List ℕ))) (i : ℕ) (d : Bor (List ℕ)) (place next : ℕ) → i < length ws → next ≡ min (place + 1) (2 ^ 64 - 1) → true ≡ one_of keys (get_or ws i d).now → Passed keys before ws i place → Passed keys before ws (i + 1) next
-word_passed keys before ws i d place next lt e t inv =
-    let n : before + (i + 1) ≡ before + i + 1 = omega arith in
-    record {
-      place_is = omega (arith, inv.place_is);
-      rest = ap (λ (k : ℕ). misplaced keys k (map (λ w. w.now) (drop (i + 1) ws))) n
-          ∙ ap (λ (b : Bool). cond b (misplaced keys (before + i + 1) (map (λ w. w.now) (drop (i + 1) ws))) (Some (before + i + 1))) t
-          ∙ sym (word_more keys (before + i) ws i d lt)
-          ∙ inv.rest;
-    }
+pub told_at : (keys : List Key) (before : ℕ) (ws : List (Bor (List ℕ))) (said : List (List ℕ)) (i at : ℕ) → map (λ w. w.now) ws ≡ said → Some i ≡ position (is_other keys) ws → at ≡ min (before + (i + 1)) (2 ^ 64 - 1) → Told (misplaced keys before said) (Misplaced at)
+told_at keys before ws said i at same found e =
+    let first : Some (before + (i + 1)) ≡ misplaced keys before said = sym (place _ i _ before found) ∙ sym (misplaced-is keys before ws) ∙ ap (misplaced keys before) same in
+    subst (λ (o : Option ℕ). Told o (Misplaced at)) first (ap (λ (n : ℕ). Misplaced n) e)
 
-pub word_told : (keys : List Key) (before : ℕ) (ws : List (Bor (List ℕ))) (i : ℕ) (d : Bor (List ℕ)) (place next : ℕ) → i < length ws → next ≡ min (place + 1) (2 ^ 64 - 1) → false ≡ one_of keys (get_or ws i d).now → Passed keys before ws i place → Told (misplaced keys before (map (λ w. w.now) ws)) (Misplaced next)
-word_told keys before ws i d place next lt e t inv =
-    let here : Some (before + i + 1) ≡ misplaced keys before (map (λ w. w.now) ws) =
-    ap (λ (b : Bool). cond b (misplaced keys (before + i + 1) (map (λ w. w.now) (drop (i + 1) ws))) (Some (before + i + 1))) t
-    ∙ sym (word_more keys (before + i) ws i d lt)
-    ∙ inv.rest in
-    let n : next ≡ min (before + i + 1) (2 ^ 64 - 1) = omega (arith, inv.place_is) in
-    subst (λ (o : Option ℕ). Told o (Misplaced next)) here (ap (λ (k : ℕ). Misplaced k) n)
-
-pub all_passed : (keys : List Key) (before : ℕ) (ws : List (Bor (List ℕ))) (i place : ℕ) → length ws ≤ i → Passed keys before ws i place → misplaced keys before (map (λ w. w.now) ws) ≡ None
-all_passed keys before ws i place le inv = sym inv.rest ∙ ap (λ (l : List (Bor (List ℕ))). misplaced keys (before + i) (map (λ w. w.now) l)) (drop_all i ws le)
+pub none_told : (keys : List Key) (before : ℕ) (ws : List (Bor (List ℕ))) (said : List (List ℕ)) → map (λ w. w.now) ws ≡ said → None ≡ position (is_other keys) ws → misplaced keys before said ≡ None
+none_told keys before ws said same found = ap (misplaced keys before) (sym same) ∙ misplaced-is keys before ws ∙ no_place _ _ before found

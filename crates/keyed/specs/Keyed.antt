@@ -40,10 +40,10 @@ Part means absent key [] r = r ≡ absent
 Part means absent key (v ∷ []) r = means v r
 Part means absent key (v ∷ w ∷ ws) r = r ≡ Err (Twice key)
 
--- a number that may be absent
-abbrev pub Optional : (List ℕ → Result ℕ LineFault → Type 0) → List ℕ → Result (Option ℕ) LineFault → Type 0
+-- a value that may be absent
+abbrev pub Optional : {X : Type 0} → (List ℕ → Result X LineFault → Type 0) → List ℕ → Result (Option X) LineFault → Type 0
 Optional means v (Ok None) = ⊥
-Optional means v (Ok (Some n)) = means v (Ok n)
+Optional means v (Ok (Some x)) = means v (Ok x)
 Optional means v (Err e) = means v (Err e)
 
 -- a text that may be absent, as its bytes

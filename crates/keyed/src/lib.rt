@@ -1,45 +1,30 @@
 // The parts of a statement that are words key=value.
 #![tactic(auto)]
 
-ghost use Rattle.std.specs.Prelude.{◌≡◌, map, IfOk, Some, None, Ok, Err, string_bytes, MatchResult};
-ghost use Rattle.std.specs.Option.{option_map};
+ghost use Rattle.std.specs.Prelude.{◌≡◌, is_some, IfOk, Some, None, Ok, Err, string_bytes, MatchResult};
+ghost use Rattle.std.specs.Option.{option_copied};
 ghost use Rattle.line_fault.specs.declared.Key.TheVariants.{Name};
 ghost use Rattle.line_fault.specs.declared.LineFault.TheVariants.{Missing};
-ghost use Rattle.part.specs.Reads.{Unsigned, RangeRead};
-ghost use Rattle.keyed.specs.Keyed.{after, value_of, values, Given, Part, Optional, Named, one_of, misplaced, Told};
+ghost use Rattle.keyed.specs.Keyed.{value_of, values, Given, Part, Optional, Named, one_of, misplaced, Told};
 
 use line_fault::{Key, LineFault};
-use statement::Rows;
+use part::Value;
 use std::alloc::Global;
-
-// What stands behind `front` in a text that begins with it.
-fn behind<'a>(text: &'a [u8], front: &[u8]) -> Option<&'a [u8]>
-    ensures { option_map (λ x. x.now) result ≡ after front.now text.now }
-{
-    if text.len() < front.len() {
-        return None;
-    }
-    for i in 0..front.len() {
-        if text[i] != front[i] {
-            return None;
-        }
-    }
-    Some(&text[front.len()..])
-}
+use words::Words;
 
 // The value of a word key=value of that key.
 fn value_of<'a>(word: &'a [u8], key: Key) -> Option<&'a [u8]>
-    ensures { option_map (λ x. x.now) result ≡ value_of key word.now }
+    ensures { option_copied result ≡ value_of key word.now }
 {
-    behind(behind(word, key.word().as_bytes())?, b"=")
+    word.strip_prefix(key.word().as_bytes())?.strip_prefix(b"=")
 }
 
 // The value of the part of that key, where there is one.
-fn given<'a>(words: &[&'a [u8]], key: Key) -> Result<Option<&'a [u8]>, LineFault>
-    ensures { Given key (values key (map (λ w. w.now) words.now)) result }
+fn given<'a>(words: &Words<'a>, key: Key) -> Result<Option<&'a [u8]>, LineFault>
+    ensures { Given key (values key words.now) result }
 {
     let mut found = None;
-    for word in words {
+    for word in words.texts() {
         if let Some(value) = value_of(word, key) {
             if found.is_some() {
                 return Err(LineFault::Twice(key));
@@ -50,91 +35,63 @@ fn given<'a>(words: &[&'a [u8]], key: Key) -> Result<Option<&'a [u8]>, LineFault
     Ok(found)
 }
 
+// Whether a word is key=value of that key.
+fn is_of(word: &[u8], key: Key) -> bool
+    ensures { result ≡ is_some (value_of key word.now) }
+{
+    value_of(word, key).is_some()
+}
+
 fn is_one_of(word: &[u8], keys: &[Key]) -> bool
     ensures { result ≡ one_of keys.now word.now }
 {
-    for key in keys {
-        if value_of(word, *key).is_some() {
-            return true;
-        }
-    }
-    false
+    keys.iter().any(|key| is_of(word, *key))
 }
 
 // Refuses a word that is no part of one of the keys; `before` words stand before these.
-pub fn only(words: &[&[u8]], before: usize, keys: &[Key]) -> Result<(), LineFault>
-    ensures { MatchResult result (λ _. misplaced keys.now before (map (λ w. w.now) words.now) ≡ None) (λ e. Told (misplaced keys.now before (map (λ w. w.now) words.now)) e) }
+pub fn only(words: &Words, before: usize, keys: &[Key]) -> Result<(), LineFault>
+    ensures { MatchResult result (λ _. misplaced keys.now before words.now ≡ None) (λ e. Told (misplaced keys.now before words.now) e) }
 {
-    let mut place = before;
-    for word in words {
-        place = place.saturating_add(1);
-        if !is_one_of(word, keys) {
-            return Err(LineFault::Misplaced(place));
-        }
-    }
-    Ok(())
-}
-
-pub fn number_needed(words: &[&[u8]], key: Key) -> Result<u64, LineFault>
-    ensures { Part (Unsigned 64 key) (Err (Missing key)) key (values key (map (λ w. w.now) words.now)) result }
-{
-    match given(words, key)? {
-        Some(text) => part::unsigned64(text, key),
-        None => Err(LineFault::Missing(key)),
+    match words.texts().iter().position(|word| !is_one_of(word, keys)) {
+        Some(index) => Err(LineFault::Misplaced(before.saturating_add(index + 1))),
+        None => Ok(()),
     }
 }
 
-pub fn range_needed(words: &[&[u8]], key: Key) -> Result<Rows, LineFault>
-    ensures { Part (RangeRead key) (Err (Missing key)) key (values key (map (λ w. w.now) words.now)) result }
+// The value of a part, or `absent` where no word gives it.
+fn read_or<T: Value>(words: &Words, key: Key, absent: Result<T, LineFault>) -> Result<T, LineFault>
+    ensures { Part (T.means key) absent key (values key words.now) result }
 {
-    match given(words, key)? {
-        Some(text) => part::range(text, key),
-        None => Err(LineFault::Missing(key)),
-    }
+    given(words, key)?.map_or(absent, |text| T::read(text, key))
 }
 
-// The number of a part, or `otherwise`.
-pub fn number_or(words: &[&[u8]], key: Key, otherwise: u64) -> Result<u64, LineFault>
-    ensures { Part (Unsigned 64 key) (Ok otherwise) key (values key (map (λ w. w.now) words.now)) result }
+// The value of a part that has to be there.
+pub fn needed<T: Value>(words: &Words, key: Key) -> Result<T, LineFault>
+    ensures { Part (T.means key) (Err (Missing key)) key (values key words.now) result }
 {
-    match given(words, key)? {
-        Some(text) => part::unsigned64(text, key),
-        None => Ok(otherwise),
-    }
+    read_or(words, key, Err(LineFault::Missing(key)))
 }
 
-pub fn number32_or(words: &[&[u8]], key: Key, otherwise: u32) -> Result<u32, LineFault>
-    ensures { Part (Unsigned 32 key) (Ok otherwise) key (values key (map (λ w. w.now) words.now)) result }
+// The value of a part, or `otherwise`.
+pub fn value_or<T: Value>(words: &Words, key: Key, otherwise: T) -> Result<T, LineFault>
+    ensures { Part (T.means key) (Ok otherwise) key (values key words.now) result }
 {
-    match given(words, key)? {
-        Some(text) => part::unsigned32(text, key),
-        None => Ok(otherwise),
-    }
+    read_or(words, key, Ok(otherwise))
 }
 
-pub fn number8_or(words: &[&[u8]], key: Key, otherwise: u8) -> Result<u8, LineFault>
-    ensures { Part (Unsigned 8 key) (Ok otherwise) key (values key (map (λ w. w.now) words.now)) result }
+// The value of a part, where there is one.
+pub fn optional<T: Value>(words: &Words, key: Key) -> Result<Option<T>, LineFault>
+    ensures { Part (Optional (T.means key)) (Ok None) key (values key words.now) result }
 {
-    match given(words, key)? {
-        Some(text) => part::unsigned8(text, key),
-        None => Ok(otherwise),
-    }
+    given(words, key)?
+        .map(|text| T::read(text, key))
+        .transpose()
 }
 
-pub fn number_given(words: &[&[u8]], key: Key) -> Result<Option<u64>, LineFault>
-    ensures { Part (Optional (Unsigned 64 key)) (Ok None) key (values key (map (λ w. w.now) words.now)) result }
+pub fn name_given(heap: Global, words: &Words) -> Result<Option<String>, LineFault>
+    ensures { IfOk result (λ name. Named string_bytes (values Name words.now) name) }
 {
-    match given(words, key)? {
-        Some(text) => Ok(Some(part::unsigned64(text, key)?)),
-        None => Ok(None),
-    }
-}
-
-pub fn name_given(heap: Global, words: &[&[u8]]) -> Result<Option<String>, LineFault>
-    ensures { IfOk result (λ name. Named string_bytes (values Name (map (λ w. w.now) words.now)) name) }
-{
-    match given(words, Key::Name)? {
-        Some(text) => Ok(Some(part::name(heap, text)?)),
-        None => Ok(None),
-    }
+    given(words, Key::Name)?
+        .map(|text| part::name(heap, text))
+        .transpose()
 }

@@ -1,1 +1,2 @@
+mod KindWords
 mod Ranges

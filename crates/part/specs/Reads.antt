@@ -3,11 +3,18 @@ use Rattle.std.specs.Prelude.{◌≡◌, ℕ, ◌+◌, ◌-◌, ◌^◌, ◌<◌
 use Rattle.std.specs.Str.Parse.{IsNumeral, digits_value, starts_with_minus}
 use Rattle.words.specs.Words.{same}
 use Rattle.numeral.specs.Numbers.{ReadsSigned, ReadsByte, body}
+use Rattle.numeral.specs.declared.Fault.{Fault}
+use Rattle.numeral.specs.declared.Fault.TheVariants as numeral
 use Rattle.line_fault.specs.declared.Key.{Key}
 use Rattle.line_fault.specs.declared.Key.TheVariants.{Kind}
 use Rattle.line_fault.specs.declared.LineFault.{LineFault}
 use Rattle.line_fault.specs.declared.LineFault.TheVariants.{NotANumber, TooLarge, NotARange, NotAByte, NotNullability}
 use Rattle.statement.specs.declared.Rows.{Rows}
+
+-- a fault of a number, told of its part
+abbrev pub fault_of : Key → Fault → LineFault
+fault_of key numeral.NotANumber = NotANumber key
+fault_of key numeral.TooLarge = TooLarge key
 
 -- decimal digits and nothing else, and the number that they write, which is below 2 ^ w
 abbrev pub Unsigned : ℕ → Key → List ℕ → Result ℕ LineFault → Type 0
@@ -18,6 +25,11 @@ Unsigned w key bs (Err e) = ((IsNumeral 10 bs → ⊥) × (e ≡ NotANumber key)
 abbrev pub Signed : ℕ → Key → List ℕ → Result ℤ LineFault → Type 0
 Signed w key bs (Ok z) = ReadsSigned bs (Ok z) × MatchBool (starts_with_minus bs) (digits_value 10 (body bs) ≤ 2 ^ (w - 1)) (digits_value 10 (body bs) < 2 ^ (w - 1))
 Signed w key bs (Err e) = ((IsNumeral 10 (body bs) → ⊥) × (e ≡ NotANumber key)) ⊎ (IsNumeral 10 (body bs) × MatchBool (starts_with_minus bs) (2 ^ (w - 1) < digits_value 10 (body bs)) (2 ^ (w - 1) ≤ digits_value 10 (body bs)) × (e ≡ TooLarge key))
+
+-- what `means` says, where it is a number that becomes one of a narrower type as `gives` says; it is too large where it does not
+abbrev pub Narrowed : {W N E : Type 0} → Key → (Result W LineFault → Type 0) → (W → Result N E → Type 0) → Result N LineFault → Type 0
+Narrowed {W} {N} {E} key means gives (Ok n) = (w : W) × means (Ok w) × gives w (Ok n)
+Narrowed {W} {N} {E} key means gives (Err e) = means (Err e) ⊎ ((w : W) × (d : E) × means (Ok w) × gives w (Err d) × (e ≡ TooLarge key))
 
 abbrev pub ByteRead : List ℕ → Result ℕ LineFault → Type 0
 ByteRead bs (Ok b) = ReadsByte bs (Some b)

@@ -1,8 +1,10 @@
 // What one word of a statement, or a part of a word, means: numbers, ranges, kinds.
 #![tactic(auto)]
 
-ghost use Rattle.std.specs.Prelude.{◌≡◌, ℕ, ◌<◌, IfOk, string_bytes, MatchOption};
-ghost use Rattle.part.specs.Reads.{Unsigned, Signed, ByteRead, DotsAt, FirstDots, RangeRead, kind_named, KindRead, NullabilityRead};
+ghost use Rattle.std.specs.Prelude.{◌≡◌, ℕ, ◌<◌, List, IfOk, string_bytes, MatchOption, Result};
+ghost use Rattle.line_fault.specs.declared.Key.{Key};
+ghost use Rattle.line_fault.specs.declared.LineFault.{LineFault};
+ghost use Rattle.part.specs.Reads.{Unsigned, Signed, Narrowed, ByteRead, DotsAt, FirstDots, RangeRead, kind_named, KindRead, NullabilityRead, fault_of};
 
 use line_fault::{Key, LineFault};
 use numeral::Fault;
@@ -11,50 +13,70 @@ use std::alloc::Global;
 use std::str::from_utf8;
 use words::is_word;
 
-pub fn unsigned64(text: &[u8], key: Key) -> Result<u64, LineFault>
-    ensures { Unsigned 64 key text.now result }
+// What the value of a part may be.
+pub trait Value: Drop {
+    // What a text means as such a value, or the fault of the part of that key.
+    ghost means: { Key → List ℕ → Result Self LineFault → Type 0 };
+
+    fn read(text: &[u8], key: Key) -> Result<Self, LineFault>
+        ensures { means key text.now result };
+}
+
+fn told(fault: Fault, key: Key) -> LineFault
+    ensures { result ≡ fault_of key fault }
 {
-    match numeral::number(text) {
-        Ok(n) => Ok(n),
-        Err(Fault::NotANumber) => Err(LineFault::NotANumber(key)),
-        Err(Fault::TooLarge) => Err(LineFault::TooLarge(key)),
+    match fault {
+        Fault::NotANumber => LineFault::NotANumber(key),
+        Fault::TooLarge => LineFault::TooLarge(key),
     }
 }
 
-pub fn unsigned32(text: &[u8], key: Key) -> Result<u32, LineFault>
-    ensures { Unsigned 32 key text.now result }
-{
-    match u32::try_from(unsigned64(text, key)?) {
-        Ok(n) => Ok(n),
-        Err(_) => Err(LineFault::TooLarge(key)),
+impl Value for u64 {
+    ghost means = { Unsigned 64 };
+
+    fn read(text: &[u8], key: Key) -> Result<u64, LineFault> {
+        numeral::number(text).map_err(|fault| told(fault, key))
     }
 }
 
-pub fn unsigned8(text: &[u8], key: Key) -> Result<u8, LineFault>
-    ensures { Unsigned 8 key text.now result }
-{
-    match u8::try_from(unsigned64(text, key)?) {
-        Ok(n) => Ok(n),
-        Err(_) => Err(LineFault::TooLarge(key)),
+impl Value for i64 {
+    ghost means = { Signed 64 };
+
+    fn read(text: &[u8], key: Key) -> Result<i64, LineFault> {
+        numeral::signed(text).map_err(|fault| told(fault, key))
     }
 }
 
-pub fn signed64(text: &[u8], key: Key) -> Result<i64, LineFault>
-    ensures { Signed 64 key text.now result }
+// A number of a type that may be too small for it.
+fn narrowed<W: Value, N: TryFrom<W>>(text: &[u8], key: Key) -> Result<N, LineFault>
+where
+    N::Error: Drop,
+    ensures { Narrowed key (W.means key text.now) N.try_from_gives result }
 {
-    match numeral::signed(text) {
-        Ok(n) => Ok(n),
-        Err(Fault::NotANumber) => Err(LineFault::NotANumber(key)),
-        Err(Fault::TooLarge) => Err(LineFault::TooLarge(key)),
+    N::try_from(W::read(text, key)?).map_err(|_| LineFault::TooLarge(key))
+}
+
+impl Value for u32 {
+    ghost means = { Unsigned 32 };
+
+    fn read(text: &[u8], key: Key) -> Result<u32, LineFault> {
+        narrowed::<u64, u32>(text, key)
     }
 }
 
-pub fn signed32(text: &[u8], key: Key) -> Result<i32, LineFault>
-    ensures { Signed 32 key text.now result }
-{
-    match i32::try_from(signed64(text, key)?) {
-        Ok(n) => Ok(n),
-        Err(_) => Err(LineFault::TooLarge(key)),
+impl Value for u8 {
+    ghost means = { Unsigned 8 };
+
+    fn read(text: &[u8], key: Key) -> Result<u8, LineFault> {
+        narrowed::<u64, u8>(text, key)
+    }
+}
+
+impl Value for i32 {
+    ghost means = { Signed 32 };
+
+    fn read(text: &[u8], key: Key) -> Result<i32, LineFault> {
+        narrowed::<i64, i32>(text, key)
     }
 }
 
@@ -62,59 +84,52 @@ pub fn signed32(text: &[u8], key: Key) -> Result<i32, LineFault>
 pub fn byte(text: &[u8]) -> Result<u8, LineFault>
     ensures { ByteRead text.now result }
 {
-    match numeral::byte(text) {
-        Some(byte) => Ok(byte),
-        None => Err(LineFault::NotAByte),
-    }
+    numeral::byte(text).ok_or(LineFault::NotAByte)
 }
 
 // Where the first `..` of a text stands.
 fn dots(text: &[u8]) -> Option<usize>
     ensures { MatchOption result ((k : ℕ) → DotsAt text.now k → ⊥) (λ p. FirstDots text.now p) }
 {
-    for i in 1..text.len() {
-        if text[i - 1] == b'.' && text[i] == b'.' {
-            return Some(i - 1);
-        }
-    }
-    None
+    text.windows(2).position(|pair| matches!(pair, b".."))
 }
 
 // FROM..TO
-pub fn range(text: &[u8], key: Key) -> Result<Rows, LineFault>
-    ensures { RangeRead key text.now result }
-{
-    let Some(place) = dots(text) else {
-        return Err(LineFault::NotARange(key));
-    };
-    let from = unsigned64(&text[0..place], key)?;
-    let to = unsigned64(&text[place + 2..], key)?;
-    Ok(Rows { from, to })
+impl Value for Rows {
+    ghost means = { RangeRead };
+
+    fn read(text: &[u8], key: Key) -> Result<Rows, LineFault> {
+        let Some(place) = dots(text) else {
+            return Err(LineFault::NotARange(key));
+        };
+        let from = u64::read(&text[..place], key)?;
+        let to = u64::read(&text[place + 2..], key)?;
+        Ok(Rows { from, to })
+    }
 }
+
+// The words of the kinds, in the order of their numbers.
+const KINDS: [&[u8]; 7] = [
+    b"leaf",
+    b"struct",
+    b"list",
+    b"large_list",
+    b"fixed_size_list",
+    b"list_view",
+    b"large_list_view",
+];
 
 // A kind by its word or its number.
 pub fn kind(text: &[u8]) -> Result<u8, LineFault>
     ensures { KindRead (kind_named text.now) text.now result }
 {
-    if is_word(text, b"leaf") {
-        Ok(0)
-    } else if is_word(text, b"struct") {
-        Ok(1)
-    } else if is_word(text, b"list") {
-        Ok(2)
-    } else if is_word(text, b"large_list") {
-        Ok(3)
-    } else if is_word(text, b"fixed_size_list") {
-        Ok(4)
-    } else if is_word(text, b"list_view") {
-        Ok(5)
-    } else if is_word(text, b"large_list_view") {
-        Ok(6)
-    } else {
-        unsigned8(text, Key::Kind)
+    match KINDS.iter().position(|word| is_word(text, word)) {
+        Some(kind) => Ok(kind as u8),
+        None => u8::read(text, Key::Kind),
     }
 }
 
+// Not a `match` on byte strings: it tests byte by byte in a tree, whose proof did not close.
 pub fn nullable(text: &[u8]) -> Result<bool, LineFault>
     ensures { NullabilityRead text.now result }
 {
@@ -131,8 +146,6 @@ pub fn nullable(text: &[u8]) -> Result<bool, LineFault>
 pub fn name(heap: Global, text: &[u8]) -> Result<String, LineFault>
     ensures { IfOk result (λ s. string_bytes s ≡ text.now) }
 {
-    match from_utf8(text) {
-        Ok(text) => Ok(String::from_str(heap, text)?),
-        Err(_) => Err(LineFault::NotText(Key::Name)),
-    }
+    let text = from_utf8(text).map_err(|_| LineFault::NotText(Key::Name))?;
+    Ok(String::from_str(heap, text)?)
 }

@@ -3,4 +3,4 @@ use Rattle.keyed.proofs.Parts.{Found}
 use Rattle.keyed.proofs.given.Given as goal
 
 abbrev pub invariant-loop-word : goal.invariant-loop-word
-invariant-loop-word l = Found l.key l.words l.word-index l.found
+invariant-loop-word l = Found l.key l.word-items l.word-index l.found

@@ -1,11 +1,10 @@
-use Rattle.keyed.proofs.Places.{key_fits, key_other, no_key}
+use Rattle.std.proofs.Common.{is_some, ◌∙◌, rules}
+use Rattle.std.proofs.lemmas.Iterator.{YieldsList-from_slice}
+use Rattle.std.proofs.lemmas.Iterator.Search.{any_from_yields_List}
+use Rattle.keyed.specs.Keyed.{value_of}
+use Rattle.keyed.proofs.Places.{list_any-one_of}
 use Rattle.keyed.proofs.is_one_of.Goals as goal
 
-pub returns-then-is_some : goal.returns-then-is_some
-returns-then-is_some c = key_fits c.args.keys.now c.args.word.now c.loop-key.key-index _ c.value_of.result c.loop-key-test.true c.value_of.ensures c.if-is_some.ensures c.loop-key.invariant
-
-pub loop-key-preserved : goal.loop-key-preserved
-loop-key-preserved c = key_other c.args.keys.now c.args.word.now c.loop-key.key-index _ c.value_of.result c.loop-key-test.true c.value_of.ensures c.if-is_some.ensures c.loop-key.invariant
-
 pub returns : goal.returns
-returns c = no_key c.args.keys.now c.args.word.now c.loop-key.key-index c.loop-key-test.false c.loop-key.invariant
+returns c =
+    any_from_yields_List (λ key. is_some (value_of key c.args.word.now)) _ _ c.any.result c.any.ensures.ran (YieldsList-from_slice c.args.keys.now c.iter.ensures.rest) (λ x b q k. search rules) ∙ list_any-one_of c.args.keys.now c.args.word.now
