@@ -4,8 +4,9 @@
 ghost use Rattle.std.specs.Prelude.{◌≡◌};
 ghost use Rattle.answer.specs.Reached.{reached_node};
 
+use std::error::Error;
 use std::fmt;
-use table::{Cause, Fault, Refusal};
+use table::{Fault, Refusal};
 use walk::Measured;
 
 #[derive(Clone, Copy, Drop)]
@@ -14,25 +15,11 @@ pub enum Answer {
     Measured(Measured),
 }
 
-// How an action went. A refusal goes with the name of the node that it speaks of, where that has one.
-#[derive(Clone, Copy, Drop)]
-pub enum Outcome<'a> {
-    Done(Answer),
-    Refused(Refusal, Option<&'a str>),
-}
-
-fn refusal_name(refusal: Refusal) -> &'static str {
-    match refusal {
-        Refusal::Table => "table",
-        Refusal::Buffers => "buffers",
-        Refusal::NotALeaf => "not-a-leaf",
-        Refusal::RowRange => "row-range",
-        Refusal::Reached(fault) => match fault.cause {
-            Cause::RequiredNull => "required-null",
-            Cause::WrongSpan => "span",
-        },
-        Refusal::TooManyEntries => "too-many-entries",
-    }
+// Why an action is refused, with the name of the node that the refusal speaks of, where that has one.
+#[derive(Clone, Copy, PartialEq, Eq, Debug, Drop)]
+pub struct Refused<'a> {
+    pub refusal: Refusal,
+    pub name: Option<&'a str>,
 }
 
 // The node that a refusal speaks of.
@@ -49,43 +36,34 @@ impl fmt::Display for Answer {
     fn fmt<W: fmt::Write>(&self, f: &mut fmt::Formatter<W>) -> fmt::Result {
         match self {
             Answer::Leaves(leaves) => write!(f, "leaves={leaves}"),
-            Answer::Measured(measured) => {
-                let entries = measured.entries;
-                let values = measured.values;
+            Answer::Measured(Measured { entries, values }) => {
                 write!(f, "entries={entries} values={values}")
             }
         }
     }
 }
 
-fn show_place<W: fmt::Write>(f: &mut fmt::Formatter<W>, fault: &Fault) -> fmt::Result {
-    let node = fault.node;
-    let slot = fault.slot;
-    let row = fault.row;
-    write!(f, " node={node} slot={slot} row={row}")
-}
-
-fn show_refusal<W: fmt::Write>(f: &mut fmt::Formatter<W>, refusal: Refusal) -> fmt::Result {
-    let code = refusal.code();
-    let name = refusal_name(refusal);
-    write!(f, "refused {code} {name}")?;
-    match refusal {
-        Refusal::Reached(fault) => show_place(f, &fault),
-        _ => Ok(()),
-    }
-}
-
-impl<'a> fmt::Display for Outcome<'a> {
+// The number and name of the refusal, the place that it speaks of, and the name of the node there.
+impl fmt::Display for Refused<'_> {
     fn fmt<W: fmt::Write>(&self, f: &mut fmt::Formatter<W>) -> fmt::Result {
-        match self {
-            Outcome::Done(answer) => write!(f, "ok {answer}"),
-            Outcome::Refused(refusal, name) => {
-                show_refusal(f, *refusal)?;
-                match name {
-                    Some(name) => write!(f, " name={name}"),
-                    None => Ok(()),
-                }
-            }
+        let Refused { refusal, name } = *self;
+        write!(f, "{} {refusal}", u8::from(refusal))?;
+        if let Refusal::Reached(
+            Fault {
+                node,
+                slot,
+                row,
+                ..
+            },
+        ) = refusal
+        {
+            write!(f, " node={node} slot={slot} row={row}")?;
         }
+        if let Some(name) = name {
+            write!(f, " name={name}")?;
+        }
+        Ok(())
     }
 }
+
+impl Error for Refused<'_> {}

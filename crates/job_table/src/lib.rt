@@ -1,32 +1,38 @@
 // The table and its buffers, as the statements give them. Where memory fails, all stays as it was.
 #![tactic(auto)]
 
-ghost use Rattle.std.specs.Prelude.{◌≡◌, [], ◌∷◌, ◌++◌, is_ok, if◌then◌else◌};
+ghost use Rattle.std.specs.Prelude.{◌≡◌, ℕ, ◌<◌, [], ◌∷◌, ◌++◌, length, is_ok, IfOk, option_map, option_copied, string_bytes, if◌then◌else◌, IsSome};
+ghost use Rattle.std.specs.Ordering.{nat_cmp};
+ghost use Rattle.std.specs.BTreeMap.{get, IsEmpty};
+ghost use Rattle.job_table.specs.Given.{kept, nodes_of, bytes_of, narrow_of, wide_of, action_of, named_after, name_after};
 
+use statement::{Action, NamedNode, Statement};
 use std::alloc::{AllocError, Global};
+use std::collections::BTreeMap;
 use table::{Node, Source};
 
 #[derive(Drop)]
 pub struct Table {
     pub nodes: Vec<Node>,
-    // the name of each node, in the order of the nodes
-    pub names: Vec<Option<String>>,
+    // the names of the nodes that have one, by the node's number
+    pub names: BTreeMap<usize, String>,
     pub validity: Vec<u8>,
     pub offsets32: Vec<i32>,
     pub offsets64: Vec<i64>,
+    ghost no_name_without_node: { (k : ℕ) → IsSome (get nat_cmp names k) → k < length nodes.items },
 }
 
 impl Table {
     pub fn new(heap: Global) -> Table
         ensures nodes { result.nodes.items ≡ [] }
-        ensures names { result.names.items ≡ [] }
+        ensures names { IsEmpty result.names }
         ensures validity { result.validity.items ≡ [] }
         ensures offsets32 { result.offsets32.items ≡ [] }
         ensures offsets64 { result.offsets64.items ≡ [] }
     {
         Table {
             nodes: Vec::new(heap),
-            names: Vec::new(heap),
+            names: BTreeMap::new(heap),
             validity: Vec::new(heap),
             offsets32: Vec::new(heap),
             offsets64: Vec::new(heap),
@@ -35,59 +41,51 @@ impl Table {
 
     pub fn add_node(&mut self, node: Node, name: Option<String>) -> Result<(), AllocError>
         ensures nodes { self.new.nodes.items ≡ (if is_ok result then self.old.nodes.items ++ (node ∷ []) else self.old.nodes.items) }
-        ensures names { self.new.names.items ≡ (if is_ok result then self.old.names.items ++ (name ∷ []) else self.old.names.items) }
+        ensures names { (k : ℕ) → get nat_cmp self.new.names k ≡ (if is_ok result then named_after (length self.old.nodes.items) name (get nat_cmp self.old.names) k else get nat_cmp self.old.names k) }
         ensures validity { self.new.validity ≡ self.old.validity }
         ensures offsets32 { self.new.offsets32 ≡ self.old.offsets32 }
         ensures offsets64 { self.new.offsets64 ≡ self.old.offsets64 }
     {
         self.nodes.reserve(1)?;
-        self.names.push(name)?;
+        if let Some(name) = name {
+            self.names.insert(self.nodes.len(), name)?;
+        }
         self.nodes.push_reserved(node);
         Ok(())
     }
 
-    pub fn add_validity(&mut self, bytes: &[u8]) -> Result<(), AllocError>
-        ensures validity { self.new.validity.items ≡ (if is_ok result then self.old.validity.items ++ bytes.now else self.old.validity.items) }
-        ensures nodes { self.new.nodes ≡ self.old.nodes }
-        ensures names { self.new.names ≡ self.old.names }
-        ensures offsets32 { self.new.offsets32 ≡ self.old.offsets32 }
-        ensures offsets64 { self.new.offsets64 ≡ self.old.offsets64 }
-    {
-        self.validity.extend_from_slice(bytes)
-    }
-
-    pub fn add_offsets32(&mut self, offsets: &[i32]) -> Result<(), AllocError>
-        ensures offsets32 { self.new.offsets32.items ≡ (if is_ok result then self.old.offsets32.items ++ offsets.now else self.old.offsets32.items) }
-        ensures nodes { self.new.nodes ≡ self.old.nodes }
-        ensures names { self.new.names ≡ self.old.names }
-        ensures validity { self.new.validity ≡ self.old.validity }
-        ensures offsets64 { self.new.offsets64 ≡ self.old.offsets64 }
-    {
-        self.offsets32.extend_from_slice(offsets)
-    }
-
-    pub fn add_offsets64(&mut self, offsets: &[i64]) -> Result<(), AllocError>
-        ensures offsets64 { self.new.offsets64.items ≡ (if is_ok result then self.old.offsets64.items ++ offsets.now else self.old.offsets64.items) }
-        ensures nodes { self.new.nodes ≡ self.old.nodes }
-        ensures names { self.new.names ≡ self.old.names }
-        ensures validity { self.new.validity ≡ self.old.validity }
-        ensures offsets32 { self.new.offsets32 ≡ self.old.offsets32 }
-    {
-        self.offsets64.extend_from_slice(offsets)
-    }
-
     pub fn clear(&mut self)
         ensures nodes { self.new.nodes.items ≡ [] }
-        ensures names { self.new.names.items ≡ [] }
+        ensures names { IsEmpty self.new.names }
         ensures validity { self.new.validity.items ≡ [] }
         ensures offsets32 { self.new.offsets32.items ≡ [] }
         ensures offsets64 { self.new.offsets64.items ≡ [] }
     {
-        self.nodes.clear();
         self.names.clear();
+        self.nodes.clear();
         self.validity.clear();
         self.offsets32.clear();
         self.offsets64.clear();
+    }
+
+    // Takes in what a statement gives; the action that it asks for is left to the caller.
+    pub fn apply(&mut self, statement: Statement) -> Result<Option<Action>, AllocError>
+        ensures action { IfOk result (λ action. action ≡ action_of statement) }
+        ensures nodes { self.new.nodes.items ≡ (if is_ok result then kept statement self.old.nodes.items ++ nodes_of statement else self.old.nodes.items) }
+        ensures names { (k : ℕ) → get nat_cmp self.new.names k ≡ (if is_ok result then name_after statement (length self.old.nodes.items) (get nat_cmp self.old.names) k else get nat_cmp self.old.names k) }
+        ensures validity { self.new.validity.items ≡ (if is_ok result then kept statement self.old.validity.items ++ bytes_of statement else self.old.validity.items) }
+        ensures offsets32 { self.new.offsets32.items ≡ (if is_ok result then kept statement self.old.offsets32.items ++ narrow_of statement else self.old.offsets32.items) }
+        ensures offsets64 { self.new.offsets64.items ≡ (if is_ok result then kept statement self.old.offsets64.items ++ wide_of statement else self.old.offsets64.items) }
+    {
+        match statement {
+            Statement::Node(NamedNode { node, name }) => self.add_node(node, name)?,
+            Statement::Validity(bytes) => self.validity.extend_from_slice(bytes.as_slice())?,
+            Statement::Offsets32(offsets) => self.offsets32.extend_from_slice(offsets.as_slice())?,
+            Statement::Offsets64(offsets) => self.offsets64.extend_from_slice(offsets.as_slice())?,
+            Statement::Clear => self.clear(),
+            Statement::Do(action) => return Ok(Some(action)),
+        }
+        Ok(None)
     }
 
     // The table and its buffers, lent.
@@ -106,10 +104,55 @@ impl Table {
     }
 
     // The name of a node, where it has one.
-    pub fn name(&self, node: usize) -> Option<&str> {
-        match self.names.get(node) {
-            Some(Some(name)) => Some(name.as_str()),
-            _ => None,
+    pub fn name(&self, node: usize) -> Option<&str>
+        ensures { option_copied result ≡ option_map string_bytes (get nat_cmp self.now.names node) }
+    {
+        self.names.get(&node).map(String::as_str)
+    }
+}
+
+#[cfg(test)]
+mod tests {
+    use super::*;
+    use statement::Rows;
+    use std::test::Fail;
+
+    const LEAF: Node = Node {
+        parent: 255,
+        kind: 0,
+        nullable: false,
+        slots: 1,
+        size: 0,
+        validity: None,
+        offsets: 0,
+        sizes: 0,
+    };
+
+    // Each statement is taken in, an action is handed back, and `clear` forgets the names too.
+    #[test]
+    fn takes_each_statement_in(rt: HostRuntime) -> Result<(), Fail> {
+        let heap = rt.alloc();
+        let mut table = Table::new(heap);
+        for name in [Some(String::from_str(heap, "root")?), None] {
+            let given = NamedNode { node: LEAF, name };
+            table.apply(Statement::Node(given))?;
         }
+        table.apply(Statement::Validity(vec![in heap; 5, 255]?))?;
+        table.apply(Statement::Offsets32(vec![in heap; 0, -2]?))?;
+        table.apply(Statement::Offsets64(vec![in heap; 7]?))?;
+        table.apply(Statement::Offsets64(vec![in heap; 8]?))?;
+        assert_eq!(rt; table.name(0), Some("root"));
+        assert_eq!(rt; table.name(1), None);
+        assert_eq!(rt; table.source().nodes.len(), 2);
+        assert_eq!(rt; table.source().validity, [5, 255].as_slice());
+        assert_eq!(rt; table.source().offsets32, [0, -2].as_slice());
+        assert_eq!(rt; table.source().offsets64, [7, 8].as_slice());
+        let rows = Rows { from: 0, to: 1 };
+        let action = table.apply(Statement::Do(Action::Measure { leaf: 3, rows }))?;
+        assert!(rt; matches!(action, Some(Action::Measure { leaf: 3, .. })));
+        assert!(rt; table.apply(Statement::Clear)?.is_none());
+        assert_eq!(rt; table.name(0), None);
+        assert_eq!(rt; table.source().nodes.len(), 0);
+        Ok(())
     }
 }

@@ -1,41 +1,33 @@
 // Reads a job, line by line, from the files that are named or from standard input, and prints what each action does.
 #![tactic(auto)]
 
-use answer::{Answer, Outcome};
+use answer::{Answer, Refused, node_of};
 use job::parse;
 use job_table::Table;
 use line_fault::LineFault;
-use statement::{Action, Statement};
+use statement::Action;
 use std::alloc::AllocError;
 use std::fs::File;
 use std::io::{BufRead, BufReader, BufWriter, Read, Stdout, Write};
 use std::process::ExitCode;
 use std::str::from_utf8;
 use std::{env, io};
-use table::Refusal;
+use table::{Refusal, survey};
+use thiserror::Error;
+use walk::measure;
 
 // Why a job ended before its end.
-#[derive(Drop)]
+#[derive(Debug, Drop, Error)]
 enum Stop {
-    Io(io::Error),
-    Line(LineFault),
-}
-
-impl From<io::Error> for Stop {
-    fn from(e: io::Error) -> Stop {
-        Stop::Io(e)
-    }
-}
-
-impl From<LineFault> for Stop {
-    fn from(e: LineFault) -> Stop {
-        Stop::Line(e)
-    }
+    #[error(transparent)]
+    Io(#[from] io::Error),
+    #[error(transparent)]
+    Line(#[from] LineFault),
 }
 
 impl From<AllocError> for Stop {
-    fn from(_e: AllocError) -> Stop {
-        Stop::Line(LineFault::Memory)
+    fn from(e: AllocError) -> Stop {
+        Stop::Line(e.into())
     }
 }
 
@@ -46,60 +38,45 @@ struct Job {
     out: BufWriter<Stdout>,
 }
 
-// What an action answers.
+// What an action answers, or why it is refused.
 fn answered(table: &Table, action: Action) -> Result<Answer, Refusal> {
     let source = table.source();
-    match action {
-        Action::Survey => Ok(Answer::Leaves(table::survey(&source)?)),
-        Action::Measure { leaf, rows } => Ok(Answer::Measured(walk::measure(
+    Ok(match action {
+        Action::Survey => Answer::Leaves(survey(&source)?),
+        Action::Measure { leaf, rows } => Answer::Measured(measure(
             &source,
             leaf as usize,
             rows.from as usize,
             rows.to as usize,
-        )?)),
-    }
+        )?),
+    })
 }
 
-// How an action goes, with the name of the node that a refusal speaks of.
-fn outcome(table: &Table, action: Action) -> Outcome<'_> {
-    match answered(table, action) {
-        Ok(answer) => Outcome::Done(answer),
-        Err(refusal) => {
-            let name = match answer::node_of(refusal) {
-                Some(node) => table.name(node),
-                None => None,
-            };
-            Outcome::Refused(refusal, name)
-        }
-    }
+// The same; a refusal goes with the name of the node that it speaks of.
+fn answered_by_name(table: &Table, action: Action) -> Result<Answer, Refused<'_>> {
+    answered(table, action).map_err(|refusal| Refused {
+        refusal,
+        name: node_of(refusal).and_then(|node| table.name(node)),
+    })
 }
 
 impl Job {
-    // Does one statement.
-    fn act(&mut self, statement: Statement) -> Result<(), Stop> {
-        match statement {
-            Statement::Node(given) => self.table.add_node(given.node, given.name)?,
-            Statement::Validity(bytes) => self.table.add_validity(bytes.as_slice())?,
-            Statement::Offsets32(offsets) => self.table.add_offsets32(offsets.as_slice())?,
-            Statement::Offsets64(offsets) => self.table.add_offsets64(offsets.as_slice())?,
-            Statement::Clear => self.table.clear(),
-            Statement::Do(action) => {
-                let outcome = outcome(&self.table, action);
-                writeln!(self.out, "{action} -> {outcome}")?;
-            }
+    // Does one line.
+    fn line(&mut self, rt: &HostRuntime, line: &[u8]) -> Result<(), Stop> {
+        let Some(statement) = parse(rt.alloc(), line)? else {
+            return Ok(());
+        };
+        let Some(action) = self.table.apply(statement)? else {
+            return Ok(());
+        };
+        match answered_by_name(&self.table, action) {
+            Ok(answer) => writeln!(self.out, "{action} -> ok {answer}")?,
+            Err(refused) => writeln!(self.out, "{action} -> refused {refused}")?,
         }
         Ok(())
     }
 
-    // Does one line.
-    fn line(&mut self, rt: &HostRuntime, line: &[u8]) -> Result<(), Stop> {
-        match parse(rt.alloc(), line)? {
-            Some(statement) => self.act(statement),
-            None => Ok(()),
-        }
-    }
-
-    // Does the lines of an input, and says where it stopped.
+    // Does the lines of an input, and says where it stopped. The lines are numbered, and read into the same memory.
     fn input<R: Read + Drop>(
         &mut self,
         rt: &HostRuntime,
@@ -123,11 +100,8 @@ impl Job {
         Ok(())
     }
 
-    // Does the lines of a file. Where there are several, each has a line with its name.
-    fn file(&mut self, rt: &HostRuntime, name: &str, several: bool) -> Result<(), Stop> {
-        if several {
-            writeln!(self.out, "file {name}")?;
-        }
+    // Does the lines of a file. Which file cannot be opened is told at once, which needs no memory.
+    fn file(&mut self, rt: &HostRuntime, name: &str) -> Result<(), Stop> {
         match File::open(rt, name) {
             Ok(file) => self.input(rt, name, file),
             Err(e) => {
@@ -138,15 +112,18 @@ impl Job {
         }
     }
 
+    // Does the files that are named. Where there are several, each has a line with its name.
     fn inputs(&mut self, rt: &HostRuntime) -> Result<(), Stop> {
-        let several = env::args(rt)?.count() > 2;
-        let mut named = false;
-        for name in env::args(rt)?.skip(1) {
-            named = true;
-            self.file(rt, name.as_str(), several)?;
-        }
-        if !named {
-            self.input(rt, "standard input", rt.stdin())?;
+        let names: Vec<String> = env::args(rt)?.skip(1).collect(rt.alloc())?;
+        match names.as_slice() {
+            [] => self.input(rt, "standard input", rt.stdin())?,
+            [name] => self.file(rt, name.as_str())?,
+            several => {
+                for name in several {
+                    writeln!(self.out, "file {name}")?;
+                    self.file(rt, name.as_str())?;
+                }
+            }
         }
         self.out.flush()?;
         Ok(())
@@ -155,27 +132,14 @@ impl Job {
 
 // The front of a line as far as it is text, at most 80 bytes of it.
 fn front(line: &[u8]) -> &str {
-    let start = match line.get(0..80) {
-        Some(start) => start,
-        None => line,
-    };
+    let start = line.get(..80).unwrap_or(line);
     match from_utf8(start) {
         Ok(text) => text.trim_end(),
-        Err(e) => text_up_to(start, e.valid_up_to()),
+        Err(_) => start.utf8_chunks().next().map_or("", |chunk| chunk.valid()),
     }
 }
 
-fn text_up_to(bytes: &[u8], end: usize) -> &str {
-    let Some(text) = bytes.get(0..end) else {
-        return "";
-    };
-    match from_utf8(text) {
-        Ok(text) => text,
-        Err(_) => "",
-    }
-}
-
-// A mistake in a job has been told by the time that it ends: `main` says no more of it.
+// Where a job stopped has been told by then; `main` tells why.
 fn main(rt: HostRuntime) -> Result<ExitCode, io::Error> {
     let mut job = Job {
         table: Table::new(rt.alloc()),
@@ -183,12 +147,8 @@ fn main(rt: HostRuntime) -> Result<ExitCode, io::Error> {
     };
     match job.inputs(&rt) {
         Ok(()) => Ok(ExitCode::SUCCESS),
-        Err(Stop::Line(fault)) => {
-            eprintln!(rt; "{fault}")?;
-            Ok(ExitCode::FAILURE)
-        }
-        Err(Stop::Io(e)) => {
-            eprintln!(rt; "{e}")?;
+        Err(stop) => {
+            eprintln!(rt; "{stop}")?;
             Ok(ExitCode::FAILURE)
         }
     }
