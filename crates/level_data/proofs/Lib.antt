@@ -1,1 +1,1 @@
-pub mod Forms
+pub mod Materials

@@ -2,9 +2,9 @@
 #![tactic(auto)]
 
 ghost use Rattle.std.specs.Prelude.{◌≡◌, ◌≤◌, length, replicate};
-ghost use Rattle.level_data.specs.Data.{data_meaning, data_most, data_bounded, DataStands, Formed, Written};
+ghost use Rattle.level_data.specs.Forms.{form_count};
 ghost use Rattle.level_data.specs.declared.Form.TheVariants.{Empty, Materialized};
-ghost use Rattle.store.specs.Growing.{list_items, list_memory};
+ghost use Rattle.store.specs.Growing.{list_items, list_most};
 ghost use Rattle.store.specs.Stores.{Fresh, Appends, Puts};
 
 use store::growing::GrowingList;
@@ -12,7 +12,7 @@ use store::reading::Spot;
 use store::refusal::Refusal;
 use store::stores::LevelStore;
 
-#[derive(Clone, Copy, Debug)]
+#[derive(Clone, Copy, PartialEq, Eq, Debug)]
 pub enum Form {
     Empty,
     // One level, and how often it comes.
@@ -25,9 +25,12 @@ pub enum Form {
 pub struct LevelData<'a> {
     list: GrowingList<'a, i16>,
     form: Form,
+    ghost fits: { form_count form ≤ list_most list },
 }
 
 impl<'a> LevelData<'a> {
+    ghost use Rattle.level_data.specs.Data.{data_meaning, data_most, Formed, Written};
+
     pub fn new(memory: &'a mut [i16]) -> LevelData<'a>
         ensures meaning { Fresh (data_meaning result) (length memory.old) }
         ensures form { result.form ≡ Empty }
@@ -59,7 +62,6 @@ impl<'a> LevelData<'a> {
     // As a store's `append`; it says the form too.
     pub fn append(&mut self, level: i16, count: u32) -> Result<(), Refusal>
         ensures levels { Appends data_meaning self.old self.new level count result }
-        ensures most { data_most self.new ≡ data_most self.old }
         ensures form { Formed self.old self.new level count result }
     {
         let most = self.list.most();
@@ -74,7 +76,6 @@ impl<'a> LevelData<'a> {
                 Ok(())
             }
             Form::Uniform(value, held) => {
-                let held = held.min(most);
                 if count > most - held {
                     return Err(Refusal::NoRoom);
                 }
@@ -95,13 +96,11 @@ impl<'a> LevelData<'a> {
     // As a store's `put`; it says the form too.
     pub fn put(&mut self, place: u32, level: i16) -> Result<(), Refusal>
         ensures levels { Puts data_meaning self.old self.new place level result }
-        ensures most { data_most self.new ≡ data_most self.old }
         ensures form { Written self.new result }
     {
         match self.form {
             Form::Empty => Err(Refusal::Place),
             Form::Uniform(value, held) => {
-                let held = held.min(self.list.most());
                 if place >= held {
                     return Err(Refusal::Place);
                 }
@@ -115,9 +114,9 @@ impl<'a> LevelData<'a> {
 }
 
 impl<'a> LevelStore for LevelData<'a> {
-    ghost meaning = { data_meaning };
+    ghost use Rattle.level_data.specs.Data.{data_meaning, data_bounded, DataStands};
 
-    ghost in_order = { λ _. Unit {0} };
+    ghost meaning = { data_meaning };
 
     ghost stands = { DataStands };
 
@@ -126,7 +125,7 @@ impl<'a> LevelStore for LevelData<'a> {
     fn length(&self) -> u32 {
         match self.form {
             Form::Empty => 0,
-            Form::Uniform(_, count) => count.min(self.list.most()),
+            Form::Uniform(_, count) => count,
             Form::Materialized => self.list.length(),
         }
     }
@@ -139,7 +138,7 @@ impl<'a> LevelStore for LevelData<'a> {
         match self.form {
             Form::Empty => Err(Refusal::Place),
             Form::Uniform(level, count) => {
-                if place < count.min(self.list.most()) {
+                if place < count {
                     Ok(level)
                 } else {
                     Err(Refusal::Place)
@@ -150,10 +149,7 @@ impl<'a> LevelStore for LevelData<'a> {
     }
 
     fn start(&self) -> Spot {
-        Spot {
-            index: 0,
-            offset: 0,
-        }
+        self.seek(0)
     }
 
     fn seek(&self, place: u32) -> Spot {
@@ -188,7 +184,7 @@ impl<'a> LevelStore for LevelData<'a> {
                 Ok(())
             }
             Form::Uniform(value, held) => {
-                if kept > held.min(self.list.most()) {
+                if kept > held {
                     return Err(Refusal::Place);
                 }
                 self.form = if kept > 0 {

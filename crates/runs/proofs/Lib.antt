@@ -1,3 +1,3 @@
 pub mod Spreads
+pub mod Spots
 pub mod Changes
-pub mod Lasts

@@ -1,11 +1,10 @@
 -- What the edits of its memory do to a growing list.
-use Rattle.std.proofs.Common.{◌≡◌, ℕ, zero, suc, ◌+◌, ◌-◌, ◌<◌, ◌≤◌, List, [], ◌∷◌, ◌++◌, length, get_or, take, drop, set, replicate, Ok, Err, Result, sym, refl, ap, ◌∙◌, ⊎_elim, arith}
-use Rattle.std.proofs.lemmas.List.{get_or-take, take-take, drop-set-lt, length-set, drop-take}
+use Rattle.std.proofs.Common.{◌≡◌, ℕ, zero, suc, ◌+◌, ◌-◌, ◌<◌, ◌≤◌, List, [], ◌∷◌, ◌++◌, length, take, drop, set, replicate, Ok, Err, Result, sym, refl, ap, ◌∙◌, arith}
+use Rattle.std.proofs.lemmas.List.{take-take, drop-set-lt, length-set, drop-take}
 use Rattle.store.specs.declared.refusal.Refusal.{Refusal}
-use Rattle.store.specs.declared.refusal.Refusal.TheVariants.{Place, NoRoom}
 use Rattle.store.specs.declared.growing.GrowingList.{GrowingList}
 use Rattle.store.specs.Filled.{filled}
-use Rattle.store.specs.Growing.{list_items, list_memory, list_most, list_used, used-within, items_long, Grown, Placed, Shortened, Appended, Written, Widened, Inserted}
+use Rattle.store.specs.Growing.{list_items, list_memory, list_most, items_long, Grown, Placed, Shortened, Cut, Appended, Written, Widened}
 use Rattle.store.proofs.Spans.{filled_long, filled_head, filled_both, filled-rest, filled_middle, shifted, shifted_head, shifted-rest, shifted_long}
 
 take_of_set : {A : Type 0} (n : ℕ) (xs : List A) (i : ℕ) (x : A) → i < n → take n (set xs i x) ≡ set (take n xs) i x
@@ -15,26 +14,19 @@ take_of_set (suc n) (y ∷ ys) zero x h = refl
 take_of_set (suc n) (y ∷ ys) (suc i) x h = ap (λ q. y ∷ q) (take_of_set n ys i x (omega arith))
 
 module _ {A : Type 0} where
-  pub items_at : (s : GrowingList A) (i : ℕ) (d : A) → i < list_used s → get_or (list_items s) i d ≡ get_or (list_memory s) i d
-  items_at s i d h = get_or-take (list_used s) (list_memory s) i d h
-
-  -- a list whose count the memory has room for
-  used_is : (t : GrowingList A) (n : ℕ) → t.count ≡ n → n ≤ list_most t → list_used t ≡ n
-  used_is t n e h = omega arith
-
   pub grown :
-      (s t : GrowingList A) (x : A) (more : ℕ) → list_used s + more ≤ list_most s
-      → list_memory t ≡ filled (list_memory s) (list_used s) (list_used s + more) x
-      → t.count ≡ list_used s + more
+      (s t : GrowingList A) (x : A) (more : ℕ) → s.count + more ≤ list_most s
+      → list_memory t ≡ filled (list_memory s) (s.count) (s.count + more) x
+      → t.count ≡ s.count + more
       → Grown s t x more
   grown s t x more room m c =
       let xs = list_memory s in
-      let a = list_used s in
+      let a = s.count in
       let long = items_long s in
       let within : a + more ≤ length xs = omega arith in
       let times : (a + more) - a ≡ more = omega arith in
       let same : length (list_memory t) ≡ length xs = ap length m ∙ filled_long xs a (a + more) x (omega arith) within in
-      let n : list_used t ≡ a + more = used_is t (a + more) c (omega arith) in
+      let n : t.count ≡ a + more = c in
       record {
         room = omega (arith, long);
         list = ap (λ k. take k (list_memory t)) n ∙ ap (take (a + more)) m ∙ filled_both xs a (a + more) x (omega arith) within ∙ ap (λ k. take a xs ++ replicate k x) times;
@@ -43,16 +35,16 @@ module _ {A : Type 0} where
       }
 
   pub placed :
-      (s t : GrowingList A) (place : ℕ) (x : A) → place < list_used s
+      (s t : GrowingList A) (place : ℕ) (x : A) → place < s.count
       → list_memory t ≡ set (list_memory s) place x
       → t.count ≡ s.count
       → Placed s t place x
   placed s t place x inside m c =
       let xs = list_memory s in
-      let a = list_used s in
+      let a = s.count in
       let long = items_long s in
       let same : length (list_memory t) ≡ length xs = ap length m ∙ length-set xs place x in
-      let n : list_used t ≡ a = omega arith in
+      let n : t.count ≡ a = omega arith in
       record {
         inside = omega (arith, long);
         list = ap (λ k. take k (list_memory t)) n ∙ ap (take a) m ∙ take_of_set a xs place x inside;
@@ -61,36 +53,36 @@ module _ {A : Type 0} where
       }
 
   pub shortened :
-      (blank : A) (s t : GrowingList A) (kept : ℕ) → kept ≤ list_used s
-      → list_memory t ≡ filled (list_memory s) kept (list_used s) blank
+      (is_default : A → Type 0) (blank : A) (s t : GrowingList A) (kept : ℕ) → is_default blank → kept ≤ s.count
+      → list_memory t ≡ filled (list_memory s) kept s.count blank
       → t.count ≡ kept
-      → Shortened blank s t kept
-  shortened blank s t kept inside m c =
+      → Shortened is_default s t kept
+  shortened is_default blank s t kept default inside m c =
       let xs = list_memory s in
-      let a = list_used s in
+      let a = s.count in
       let long = items_long s in
-      let same : length (list_memory t) ≡ length xs = ap length m ∙ filled_long xs kept a blank inside (used-within s) in
-      let n : list_used t ≡ kept = used_is t kept c (omega arith) in
+      let same : length (list_memory t) ≡ length xs = ap length m ∙ filled_long xs kept a blank inside (omega arith) in
+      let n : t.count ≡ kept = c in
       record {
         inside = omega (arith, long);
-        list = ap (λ k. take k (list_memory t)) n ∙ ap (take kept) m ∙ filled_head xs kept a blank inside (used-within s) ∙ sym (take-take kept a xs inside);
-        vacated = ap (λ k. take (k - kept) (drop kept (list_memory t))) long ∙ ap (λ q. take (a - kept) (drop kept q)) m ∙ filled_middle xs kept a blank inside (used-within s) ∙ ap (λ k. replicate (k - kept) blank) (sym long);
-        rest = ap (λ k. drop k (list_memory t)) long ∙ ap (drop a) m ∙ filled-rest xs kept a blank inside (used-within s) ∙ ap (λ k. drop k xs) (sym long);
+        list = ap (λ k. take k (list_memory t)) n ∙ ap (take kept) m ∙ filled_head xs kept a blank inside (omega arith) ∙ sym (take-take kept a xs inside);
+        vacated = (blank, (default, ap (λ k. take (k - kept) (drop kept (list_memory t))) long ∙ ap (λ q. take (a - kept) (drop kept q)) m ∙ filled_middle xs kept a blank inside (omega arith) ∙ ap (λ k. replicate (k - kept) blank) (sym long)));
+        rest = ap (λ k. drop k (list_memory t)) long ∙ ap (drop a) m ∙ filled-rest xs kept a blank inside (omega arith) ∙ ap (λ k. drop k xs) (sym long);
         size = same;
       }
 
   pub widened :
-      (s t : GrowingList A) (place : ℕ) (x : A) → place ≤ list_used s → list_used s < list_most s
-      → list_memory t ≡ shifted (list_memory s) place (list_used s) x
-      → t.count ≡ list_used s + 1
+      (s t : GrowingList A) (place : ℕ) (x : A) → place ≤ s.count → s.count < list_most s
+      → list_memory t ≡ shifted (list_memory s) place (s.count) x
+      → t.count ≡ s.count + 1
       → Widened s t place x
   widened s t place x inside room m c =
       let xs = list_memory s in
-      let a = list_used s in
+      let a = s.count in
       let long = items_long s in
       let within : a < length xs = omega arith in
       let same : length (list_memory t) ≡ length xs = ap length m ∙ shifted_long xs place a x inside within in
-      let n : list_used t ≡ a + 1 = used_is t (a + 1) c (omega arith) in
+      let n : t.count ≡ a + 1 = c in
       let at : place + (a - place) ≡ a = omega arith in
       let tail : drop place (take a xs) ≡ take (a - place) (drop place xs) = ap (λ k. drop place (take k xs)) (sym at) ∙ drop-take place (a - place) xs in
       record {
@@ -111,9 +103,6 @@ module _ {A : Type 0} where
   placed_if s t place x (Ok u) h inside = h
   placed_if s t place x (Err e) h inside = absurd (omega (arith, h.1))
 
-  pub most-same : (s t : GrowingList A) → length (list_memory t) ≡ length (list_memory s) → list_most t ≡ list_most s
-  most-same s t e = omega arith
-
-  pub widened_if : (s t : GrowingList A) (place : ℕ) (x : A) (r : Result (Unit {0}) Refusal) → Inserted s t place x r → place ≤ length (list_items s) → length (list_items s) < list_most s → Widened s t place x
-  widened_if s t place x (Ok u) h inside room = h
-  widened_if s t place x (Err e) h inside room = absurd (⊎_elim (λ (p : (e ≡ Place) × (length (list_items s) < place)). omega (arith, p.1)) (λ (p : (e ≡ NoRoom) × (place ≤ length (list_items s)) × (list_most s ≤ length (list_items s))). omega (arith, p.2)) h.0)
+  pub shortened_if : (is_default : A → Type 0) (s t : GrowingList A) (kept : ℕ) (r : Result (Unit {0}) Refusal) → Cut is_default s t kept r → kept ≤ length (list_items s) → Shortened is_default s t kept
+  shortened_if is_default s t kept (Ok u) h inside = h
+  shortened_if is_default s t kept (Err e) h inside = absurd (omega (arith, h.1))

@@ -15,18 +15,12 @@ module _ {T : Type 0} where
   abbrev pub list_most : GrowingList T → ℕ
   list_most g = min (length (list_memory g)) 2147483647
 
-  abbrev pub list_used : GrowingList T → ℕ
-  list_used g = min g.count (list_most g)
-
   -- the list
   abbrev pub list_items : GrowingList T → List T
-  list_items g = take (list_used g) (list_memory g)
+  list_items g = take g.count (list_memory g)
 
-  pub used-within : (s : GrowingList T) → list_used s ≤ length (list_memory s)
-  used-within s = omega arith
-
-  pub items_long : (s : GrowingList T) → length (list_items s) ≡ list_used s
-  items_long s = length-take-le (list_used s) (list_memory s) (used-within s)
+  pub items_long : (s : GrowingList T) → length (list_items s) ≡ s.count
+  items_long s = length-take-le s.count (list_memory s) (omega arith)
 
   pub items-most : (s : GrowingList T) → (length (list_items s) ≤ list_most s) × (list_most s ≤ 2147483647)
   items-most s = (omega (arith, items_long s), omega arith)
@@ -67,14 +61,14 @@ module _ {T : Type 0} where
       MatchResult r (λ _. Widened s t place x)
       (λ e. (((e ≡ Place) × (length (list_items s) < place)) ⊎ ((e ≡ NoRoom) × (place ≤ length (list_items s)) × (list_most s ≤ length (list_items s)))) × (t ≡ s))
 
-  -- the first kept elements stay, the places behind them are blank, and the memory past the old list is untouched
-  pub record Shortened (blank : T) (s t : GrowingList T) (kept : ℕ) : Type 0 where
+  -- the first kept elements stay, the places behind them hold one default, and the memory past the old list is untouched
+  pub record Shortened (is_default : T → Type 0) (s t : GrowingList T) (kept : ℕ) : Type 0 where
     pub inside : kept ≤ length (list_items s)
     pub list : list_items t ≡ take kept (list_items s)
-    pub vacated : take (length (list_items s) - kept) (drop kept (list_memory t)) ≡ replicate (length (list_items s) - kept) blank
+    pub vacated : (x : T) × (is_default x × (take (length (list_items s) - kept) (drop kept (list_memory t)) ≡ replicate (length (list_items s) - kept) x))
     pub rest : drop (length (list_items s)) (list_memory t) ≡ drop (length (list_items s)) (list_memory s)
     pub size : length (list_memory t) ≡ length (list_memory s)
 
-  abbrev pub Cut : T → GrowingList T → GrowingList T → ℕ → Result (Unit {0}) Refusal → Type 0
-  Cut blank s t kept r =
-      MatchResult r (λ _. Shortened blank s t kept) (λ e. (e ≡ Place) × (length (list_items s) < kept) × (t ≡ s))
+  abbrev pub Cut : (T → Type 0) → GrowingList T → GrowingList T → ℕ → Result (Unit {0}) Refusal → Type 0
+  Cut is_default s t kept r =
+      MatchResult r (λ _. Shortened is_default s t kept) (λ e. (e ≡ Place) × (length (list_items s) < kept) × (t ≡ s))

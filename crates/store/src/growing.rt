@@ -1,43 +1,22 @@
 // A list that grows over borrowed memory.
-ghost use Rattle.std.specs.Prelude.{◌≡◌, ◌+◌, ◌-◌, ◌<◌, ◌≤◌, [], ◌∷◌, ◌++◌, length, take, drop, slice_index_or, slice_range, slice_set};
-ghost use Rattle.store.specs.Filled.{filled};
-ghost use Rattle.store.specs.Growing.{list_items, list_memory, list_most, list_used, Appended, Written, Inserted, Cut};
+ghost use Rattle.std.specs.Prelude.{◌≡◌, ◌+◌, ◌-◌, ◌<◌, ◌≤◌, min, [], ◌∷◌, ◌++◌, length, take, drop, replicate, slice_range};
 ghost use Rattle.store.specs.Reads.{Read};
 
-use crate::blank::Blank;
 use crate::refusal::Refusal;
 
-// The list is the first `count` elements of the memory; a count past what it can hold stands for the most that it can.
-// So every value of the struct stands for a list, and no call requires anything.
+// The list is the first `count` elements of the memory. No heap is used here, so the memory is lent, and the count stands beside it.
 #[derive(Drop)]
 pub struct GrowingList<'a, T> {
     memory: &'a mut [T],
     count: u32,
+    ghost within: { count ≤ min (length memory.now) 2147483647 },
 }
 
-fn element<T: Copy>(memory: &[T], place: usize) -> T
-    requires { place < length memory.now }
-    ensures { (d : T) → result ≡ slice_index_or memory.now place d }
+// Writes `x` into each place. The library's `fill` asks for a clone that cannot fail, which `Copy` does not say.
+fn fill<T: Copy>(places: &mut [T], x: T)
+    ensures { places.new ≡ replicate (length places.old) x }
 {
-    memory[place]
-}
-
-fn write<T: Copy>(memory: &mut [T], place: usize, x: T)
-    requires { place < length memory.old }
-    ensures { memory.new ≡ slice_set memory.old place x }
-{
-    memory[place] = x;
-}
-
-// Writes `x` into each place from `from` up to `to`.
-fn fill<T: Copy>(memory: &mut [T], from: usize, to: usize, x: T)
-    requires ordered { from ≤ to }
-    requires within { to ≤ length memory.old }
-    ensures { memory.new ≡ filled memory.old from to x }
-{
-    for i in from..to {
-        memory[i] = x;
-    }
+    places.fill_with(|| x);
 }
 
 // Moves what stands from `place` up to `end` one place on, and writes `x` into the place.
@@ -47,11 +26,12 @@ fn shift_in<T: Copy>(memory: &mut [T], place: usize, end: usize, x: T)
     ensures { memory.new ≡ take place memory.old ++ (x ∷ (slice_range memory.old place end ++ drop (end + 1) memory.old)) }
 {
     memory[end] = x;
-    let part = &mut memory[place..end + 1];
-    part.rotate_right(1);
+    memory[place..end + 1].rotate_right(1);
 }
 
-impl<'a, T: Blank> GrowingList<'a, T> {
+impl<'a, T: Copy> GrowingList<'a, T> {
+    ghost use Rattle.store.specs.Growing.{list_items, list_memory, list_most, Appended, Written, Inserted};
+
     // An empty list over `memory`, which is not written yet.
     pub fn new(memory: &'a mut [T]) -> GrowingList<'a, T>
         ensures items { list_items result ≡ [] }
@@ -64,35 +44,28 @@ impl<'a, T: Blank> GrowingList<'a, T> {
     pub fn most(&self) -> u32
         ensures { result ≡ list_most self.now }
     {
-        let places = self.memory.len();
-        if places < 2147483647 {
-            places as u32
-        } else {
-            2147483647
-        }
-    }
-
-    fn used(&self) -> u32
-        ensures { result ≡ list_used self.now }
-    {
-        let most = self.most();
-        if self.count < most { self.count } else { most }
+        self.memory.len().min(2147483647) as u32
     }
 
     pub fn length(&self) -> u32
         ensures { result ≡ length (list_items self.now) }
     {
-        self.used()
+        self.as_slice().len() as u32
+    }
+
+    pub fn as_slice(&self) -> &[T]
+        ensures { result.now ≡ list_items self.now }
+    {
+        &self.memory[..self.count as usize]
     }
 
     pub fn at(&self, place: u32) -> Result<T, Refusal>
         ensures { Read (list_items self.now) place result }
     {
-        if place < self.used() {
-            Ok(element(self.memory, place as usize))
-        } else {
-            Err(Refusal::Place)
-        }
+        self.as_slice()
+            .get(place as usize)
+            .copied()
+            .ok_or(Refusal::Place)
     }
 
     // Appends `x` `more` times.
@@ -100,12 +73,12 @@ impl<'a, T: Blank> GrowingList<'a, T> {
         ensures list { Appended self.old self.new x more result }
         ensures lender { self.new.memory.ghost_name ≡ self.old.memory.ghost_name }
     {
-        let from = self.used();
+        let from = self.count;
         if more > self.most() - from {
             return Err(Refusal::NoRoom);
         }
         let to = from + more;
-        fill(self.memory, from as usize, to as usize, x);
+        fill(&mut self.memory[from as usize..to as usize], x);
         self.count = to;
         Ok(())
     }
@@ -114,10 +87,10 @@ impl<'a, T: Blank> GrowingList<'a, T> {
         ensures list { Written self.old self.new place x result }
         ensures lender { self.new.memory.ghost_name ≡ self.old.memory.ghost_name }
     {
-        if place >= self.used() {
+        if place >= self.count {
             return Err(Refusal::Place);
         }
-        write(self.memory, place as usize, x);
+        self.memory[place as usize] = x;
         Ok(())
     }
 
@@ -126,7 +99,7 @@ impl<'a, T: Blank> GrowingList<'a, T> {
         ensures list { Inserted self.old self.new place x result }
         ensures lender { self.new.memory.ghost_name ≡ self.old.memory.ghost_name }
     {
-        let end = self.used();
+        let end = self.count;
         if place > end {
             return Err(Refusal::Place);
         }
@@ -137,17 +110,21 @@ impl<'a, T: Blank> GrowingList<'a, T> {
         self.count = end + 1;
         Ok(())
     }
+}
 
-    // Keeps the first `kept` elements, and fills the places that it vacates with the blank.
+impl<'a, T: Copy + Default> GrowingList<'a, T> {
+    ghost use Rattle.store.specs.Growing.{Cut};
+
+    // Keeps the first `kept` elements, and fills the places that it vacates with the default.
     pub fn cut_back(&mut self, kept: u32) -> Result<(), Refusal>
-        ensures list { Cut T.blank self.old self.new kept result }
+        ensures list { Cut T.is_default self.old self.new kept result }
         ensures lender { self.new.memory.ghost_name ≡ self.old.memory.ghost_name }
     {
-        let to = self.used();
+        let to = self.count;
         if kept > to {
             return Err(Refusal::Place);
         }
-        fill(self.memory, kept as usize, to as usize, T::vacant());
+        fill(&mut self.memory[kept as usize..to as usize], T::default());
         self.count = kept;
         Ok(())
     }

@@ -1,6 +1,8 @@
 // Why a call on a list or a store changed nothing.
-ghost use Rattle.std.specs.Prelude.{◌≡◌};
-ghost use Rattle.store.specs.Codes.{code_of};
+ghost use Rattle.std.specs.Prelude.{◌≡◌, Some};
+ghost use Rattle.store.specs.Codes.{code_of, name_of};
+
+use std::fmt;
 
 #[derive(Clone, Copy, PartialEq, Eq, Debug)]
 pub enum Refusal {
@@ -10,22 +12,26 @@ pub enum Refusal {
     NoRoom,
 }
 
-impl Refusal {
-    // The number by which callers outside know it.
-    pub fn code(self) -> u8
-        ensures { result ≡ code_of self }
-    {
-        match self {
+// The number by which callers outside know it.
+impl From<Refusal> for u8 {
+    ghost from_gives = { λ refusal code. code ≡ code_of refusal };
+
+    fn from(refusal: Refusal) -> u8 {
+        match refusal {
             Refusal::Place => 20,
             Refusal::NoRoom => 21,
         }
     }
+}
 
-    // Its name in messages.
-    pub fn name(self) -> &'static str {
+// Its name in messages.
+impl fmt::Display for Refusal {
+    ghost output = { λ refusal. Some (name_of refusal) };
+
+    fn fmt<W: fmt::Write>(&self, f: &mut fmt::Formatter<W>) -> fmt::Result {
         match self {
-            Refusal::Place => "place",
-            Refusal::NoRoom => "no-room",
+            Refusal::Place => write!(f, "place"),
+            Refusal::NoRoom => write!(f, "no-room"),
         }
     }
 }

@@ -1,23 +1,22 @@
-use Rattle.std.proofs.Common.{◌≡◌, ◌+◌, ◌-◌, length, drop, ap, arith}
-use Rattle.std.proofs.lemmas.List.{drop_all}
-use Rattle.runs.specs.Kept.{records}
+use Rattle.std.proofs.Common.{◌≡◌, ℕ, ◌+◌, ◌-◌, ◌<◌, List, [], ◌∷◌, ◌++◌, length, take, sym, refl, ap, ◌∙◌, arith}
+use Rattle.std.proofs.lemmas.List.{length-append, take_at, take-take}
+use Rattle.runs.specs.declared.Run.{Run}
 use Rattle.runs.specs.Runs.{spread}
-use Rattle.runs.proofs.Lasts.{back_next}
+use Rattle.runs.specs.Kept.{records}
+use Rattle.runs.proofs.Spreads.{long-push}
+use Rattle.runs.proofs.RunStore.find.Invariants.{Passed}
 use Rattle.runs.proofs.RunStore.find.Goals as goal
 
-pub loop-index-init : goal.loop-index-init
-loop-index-init c =
-    let items = records c.args.self.now in
-    let none = ap (λ q. length (spread q)) (drop_all c.length-index.result items (omega (arith, c.length-index.ensures))) in
-    (omega (arith, c.length-index.ensures), omega (arith, none), λ h. h)
+passed_more : (items xs ys : List Run) (last : Run) (n place : ℕ) → Passed items xs n place → xs ≡ ys ++ (last ∷ []) → place < n - last.count → Passed items ys (n - last.count) place
+passed_more items xs ys last n place on e more =
+    let long : length xs ≡ length ys + 1 = ap length e ∙ length-append ys (last ∷ []) in
+    let levels : n ≡ length (spread ys) + last.count = on.before ∙ ap (λ q. length (spread q)) e ∙ long-push ys last in
+    record {
+      front = sym (take_at ys (last ∷ []) (length ys) refl) ∙ ap (take (length ys)) (sym e ∙ on.front) ∙ take-take (length ys) (length xs) items (omega arith);
+      within = omega (arith, on.within);
+      before = omega arith;
+      ahead = more;
+    }
 
-pub loop-index-preserved : goal.loop-index-preserved
-loop-index-preserved c =
-    let items = records c.args.self.now in
-    let i = c.loop-index.index - 1 in
-    let k : i + 1 ≡ c.loop-index.index = omega arith in
-    let next = back_next items i c.record_at.result (omega (arith, c.loop-index.invariant.0)) c.record_at.ensures in (
-      omega (arith, c.loop-index.invariant.0),
-      omega (arith, c.loop-index.invariant.1, next, c.long-n.ensures, ap (λ j. length (spread (drop j items))) k),
-      λ h. omega arith,
-    )
+pub loop-run-preserved : goal.loop-run-preserved
+loop-run-preserved c = passed_more (records c.args.self.now) c.loop-run.runs.now c.in-Some.front.now c.in-Some.run'.now _ c.args.place c.loop-run.invariant c.in-Some.ensures.cases.0 (omega arith)
