@@ -1,2 +1,2 @@
-pub mod Occurrences
 pub mod Counts
+pub mod Same

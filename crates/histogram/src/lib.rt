@@ -2,37 +2,41 @@
 #![tactic(auto)]
 
 ghost use Rattle.std.specs.Prelude.{◌≡◌};
-ghost use Rattle.histogram.specs.Histograms.{Counted, HistogramOrdered};
+ghost use Rattle.histogram.specs.Tallies.{Counted};
 
+use store::levels::Levels;
 use store::reading::Spot;
 use store::refusal::Refusal;
 use store::stores::LevelStore;
-use tally::{add, add_rest, subtract, subtract_rest};
+use tally::slot;
 
 mod tally;
 
+pub use tally::SLOTS;
+
 #[derive(Drop)]
-pub struct Histogram<S> {
+pub struct Histogram<S: LevelStore> {
     below: S,
-    counts: [u32; 17],
+    counts: [u32; SLOTS],
+    ghost counted: { Counted (S.meaning below).levels counts },
 }
 
 impl<S: LevelStore> Histogram<S> {
     // Counts what `below` holds.
     pub fn new(below: S) -> Histogram<S>
-        ensures below { result.below ≡ below }
-        ensures counted { Counted (S.meaning below).levels result.counts }
-        ensures ordered { S.in_order below → HistogramOrdered S.meaning S.in_order result }
+        ensures { result.below ≡ below }
     {
-        let mut counts = [0; 17];
-        add_rest(&mut counts, &below, below.start(), 0, below.length());
+        let mut counts = [0; SLOTS];
+        for level in Levels::new(&below) {
+            counts[slot(level)] += 1;
+        }
         Histogram { below, counts }
     }
 
     // How often each of the levels 0 to 15 comes, and how often any other.
-    pub fn counts(&self) -> [u32; 17]
+    pub fn counts(&self) -> [u32; SLOTS]
         ensures kept { result ≡ self.now.counts }
-        ensures counted { HistogramOrdered S.meaning S.in_order self.now → Counted (S.meaning self.now.below).levels result }
+        ensures counted { Counted (S.meaning self.now.below).levels result }
     {
         self.counts
     }
@@ -40,8 +44,6 @@ impl<S: LevelStore> Histogram<S> {
 
 impl<S: LevelStore> LevelStore for Histogram<S> {
     ghost meaning = { λ h. S.meaning h.below };
-
-    ghost in_order = { HistogramOrdered S.meaning S.in_order };
 
     ghost stands = { λ h. S.stands h.below };
 
@@ -73,31 +75,23 @@ impl<S: LevelStore> LevelStore for Histogram<S> {
 
     fn append(&mut self, level: i16, count: u32) -> Result<(), Refusal> {
         self.below.append(level, count)?;
-        add(&mut self.counts, level, count);
+        self.counts[slot(level)] += count;
         Ok(())
     }
 
     fn put(&mut self, place: u32, level: i16) -> Result<(), Refusal> {
         let old = self.below.at(place)?;
         self.below.put(place, level)?;
-        subtract(&mut self.counts, old, 1);
-        add(&mut self.counts, level, 1);
+        self.counts[slot(old)] -= 1;
+        self.counts[slot(level)] += 1;
         Ok(())
     }
 
     fn cut_back(&mut self, kept: u32) -> Result<(), Refusal> {
-        let length = self.below.length();
-        if kept > length {
-            return Err(Refusal::Place);
-        }
         let mut counts = self.counts;
-        subtract_rest(
-            &mut counts,
-            &self.below,
-            self.below.seek(kept),
-            kept,
-            length,
-        );
+        for level in Levels::starting_at(&self.below, kept) {
+            counts[slot(level)] -= 1;
+        }
         self.below.cut_back(kept)?;
         self.counts = counts;
         Ok(())

@@ -1,10 +1,10 @@
 // Runs the same code over each make of store and over piles of layers, and prints what it did.
 #![tactic(auto)]
 
-ghost use Rattle.std.specs.Prelude.{◌≡◌, ℕ, ◌<◌, ◌≤◌, ◌++◌, length, replicate, pos, slice_index};
-ghost use Rattle.histogram.specs.Tallies.{occurrences};
+ghost use Rattle.std.specs.Prelude.{◌≡◌, ◌≤◌, [], ◌++◌, length, replicate, pos};
+ghost use Rattle.histogram.specs.Tallies.{Counted};
 
-use histogram::Histogram;
+use histogram::{Histogram, SLOTS};
 use level_data::LevelData;
 use runs::{Run, RunStore};
 use std::io;
@@ -13,22 +13,27 @@ use store::refusal::Refusal;
 use store::stores::LevelStore;
 use store_reader::{append_and_read, append_both, holds};
 
-// What two layers over runs count of eight levels.
-fn layered_runs(memory: &mut [Run]) -> [u32; 17]
-    ensures { 8 ≤ length memory.old → (k : ℕ) → k < 17 → slice_index result k ≡ occurrences k (replicate 4 (pos 3) ++ replicate 4 (pos 5)) }
+// What a layer over an empty store counts of eight levels.
+fn count_eight<S: LevelStore + Drop>(below: S) -> [u32; SLOTS]
+    ensures { (S.meaning below).levels ≡ [] → 8 ≤ (S.meaning below).most → Counted (replicate 4 (pos 3) ++ replicate 4 (pos 5)) result }
 {
-    let mut layers = Histogram::new(Histogram::new(RunStore::new(memory)));
-    append_both(&mut layers, 3, 5, 4);
-    layers.counts()
+    let mut layer = Histogram::new(below);
+    let _ = append_both(&mut layer, 3, 5, 4);
+    layer.counts()
+}
+
+// What two layers over runs count of them.
+fn layered_runs(memory: &mut [Run]) -> [u32; SLOTS]
+    ensures { 8 ≤ length memory.old → Counted (replicate 4 (pos 3) ++ replicate 4 (pos 5)) result }
+{
+    count_eight(Histogram::new(RunStore::new(memory)))
 }
 
 // What one layer over level data counts of them.
-fn layered_data(memory: &mut [i16]) -> [u32; 17]
-    ensures { 8 ≤ length memory.old → (k : ℕ) → k < 17 → slice_index result k ≡ occurrences k (replicate 4 (pos 3) ++ replicate 4 (pos 5)) }
+fn layered_data(memory: &mut [i16]) -> [u32; SLOTS]
+    ensures { 8 ≤ length memory.old → Counted (replicate 4 (pos 3) ++ replicate 4 (pos 5)) result }
 {
-    let mut layer = Histogram::new(LevelData::new(memory));
-    append_both(&mut layer, 3, 5, 4);
-    layer.counts()
+    count_eight(LevelData::new(memory))
 }
 
 // What a trial of a store came to.
@@ -47,13 +52,13 @@ struct Trial {
 
 // Writes, puts, cuts back and reads back.
 fn try_store<S: LevelStore>(store: &mut S) -> Trial {
-    let both = append_both(store, 1, -2, 3);
+    let both = append_both(store, 1, -2, 3).is_ok();
     let read = append_and_read(store, 7).unwrap_or(-1);
     let put = store.put(1, 4).is_ok();
     let past = store.put(7, 4).is_ok();
     let cut = store.cut_back(5).is_ok();
     let same = holds(store, &[1, 4, 1, -2, -2]);
-    let full = append_both(store, 0, 1, 4000000000);
+    let full = append_both(store, 0, 1, 4000000000).is_ok();
     Trial {
         both,
         read,
@@ -95,10 +100,7 @@ fn main(rt: HostRuntime) -> io::Result<()> {
     let mut places = [5; 4];
     let mut list: GrowingList<u32> = GrowingList::new(&mut places);
     let _ = list.append(8, 3);
-    let refused = match list.append(8, 2) {
-        Ok(()) => 0,
-        Err(refusal) => refusal.code(),
-    };
+    let refused = list.append(8, 2).err().map_or(0, u8::from);
     let _ = list.cut_back(1);
     println!(rt; "positions: {refused} {places:?}")
 }

@@ -1,14 +1,29 @@
-use Rattle.histogram.proofs.Counts.{counted_cut}
+use Rattle.std.proofs.Common.{ap, ◌∙◌, length-set, arith, rules}
+use Rattle.std.proofs.lemmas.List.Sums.{sum_by-cons, sum_by-take-drop}
+use Rattle.std.proofs.lemmas.Result.{err_from_is_err_and}
+use Rattle.histogram.specs.Tallies.{occurrences}
+use Rattle.histogram.proofs.Counts.{one, counted_off}
+use Rattle.histogram.proofs.Same.{unchanged}
 use Rattle.histogram.proofs.HistogramLevelStore.cut_back.Goals as goal
 
-pub returns : goal.returns
-returns g c =
-    let done = c.in_ok-cut_back.ensures in
-    record {
-      levels = done.levels;
-      most = done.most;
-      ordered = λ o. (
-        done.ordered o.0,
-        counted_cut _ _ _ _ c.args.kept c.length-length.result c.length-length.ensures done.levels.1 c.subtract_rest.ensures o.1,
-      );
-    }
+pub loop-level-init : goal.loop-level-init
+loop-level-init g c =
+    let s = c.args.self.now in
+    let rest = c.into_iter-level-iterator.ensures.into_iter_gives ∙ c.starting_at-level-items.ensures in
+    (search rules, λ k h. omega (arith, s.counted k h, sum_by-take-drop (one k) (g.S.LevelStore.meaning s.below).levels c.args.kept, ap (occurrences k) rest))
+
+pub loop-level-preserved : goal.loop-level-preserved
+loop-level-preserved g c =
+    let x = c.in-Some.level in
+    let counts = c.loop-level.counts in
+    let long = c.loop-level.invariant.0 in
+    let off = counted_off counts x c.slot.result (search rules) c.slot.ensures.slot (omega arith) in (
+      length-set counts c.slot.result _ ∙ long,
+      λ k h. omega (arith, c.loop-level.invariant.1 k h, off k, ap (occurrences k) c.in-Some.ensures.steps, sum_by-cons (one k) x c.next.new.self),
+    )
+
+pub returns-in_err-cut_back : goal.returns-in_err-cut_back
+returns-in_err-cut_back g c =
+    let refused = c.in_err-cut_back.ensures in
+    let given = err_from_is_err_and c.from_residual.result c.from_residual.ensures.1 in
+    rw (given.1, given.2) (refused.0, refused.1, unchanged c.args.self.now c.cut_back.new.self refused.2 _)
