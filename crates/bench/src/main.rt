@@ -4,20 +4,46 @@
 
 ghost use Rattle.std.specs.Prelude.{◌<◌};
 
+use job_table::Table;
 use std::alloc::{AllocError, Global};
-use std::time::Instant;
-use std::{env, io};
-use table::{Node, Source};
+use std::io;
+use std::time::Duration;
+use table::{Kind, Node};
+use timing::{Trials, arguments, least_time, share};
 use walk::{Measured, measure};
 
-// A table of one leaf and its buffers, made up by a random number.
-#[derive(Drop)]
-struct Shape {
-    nodes: Vec<Node>,
-    validity: Vec<u8>,
-    offsets32: Vec<i32>,
-    offsets64: Vec<i64>,
-    random: u64,
+// What a root has for its parent.
+const NO_PARENT: u8 = 255;
+
+// A tenth of the slots, at random.
+const TENTH: Nulls = Nulls::Percent(10);
+
+// Numbers made up by xorshift.
+#[derive(Clone, Copy)]
+struct Random(u64);
+
+impl Random {
+    fn below(&mut self, bound: u64) -> u64
+        requires { 0 < bound }
+        ensures { result < bound }
+    {
+        self.0 ^= self.0 << 13;
+        self.0 ^= self.0 >> 7;
+        self.0 ^= self.0 << 17;
+        (self.0.wrapping_mul(0x2545_F491_4F6C_DD1D) >> 11) % bound
+    }
+
+    // Eight bits, so many percent of which are 0.
+    fn byte(&mut self, percent: u64) -> u8 {
+        (0..8u32).fold(0, |byte, k| {
+            byte | (u8::from(self.below(100) >= percent) << k)
+        })
+    }
+
+    // The lengths of so many lists, 5 to 15 each.
+    fn lengths(&mut self, heap: Global, lists: u32) -> Result<Vec<i32>, AllocError> {
+        (0..lists).map(|_| 5 + self.below(11) as i32).collect(heap)
+    }
 }
 
 // Which slots of a node are null.
@@ -28,354 +54,260 @@ enum Nulls {
     EveryTenth,
 }
 
+// A table of one leaf and its buffers.
+#[derive(Drop)]
+struct Shape {
+    heap: Global,
+    table: Table,
+    random: Random,
+}
+
 impl Shape {
     fn new(heap: Global) -> Shape {
         Shape {
-            nodes: Vec::new(heap),
-            validity: Vec::new(heap),
-            offsets32: Vec::new(heap),
-            offsets64: Vec::new(heap),
-            random: 0x9E37_79B9_7F4A_7C15,
+            heap,
+            table: Table::new(heap),
+            random: Random(0x9E37_79B9_7F4A_7C15),
         }
-    }
-
-    fn below(&mut self, bound: u64) -> u64
-        ensures { 0 < bound → result < bound }
-    {
-        self.random ^= self.random << 13;
-        self.random ^= self.random >> 7;
-        self.random ^= self.random << 17;
-        let x = self.random.wrapping_mul(0x2545_F491_4F6C_DD1D) >> 11;
-        if bound == 0 { 0 } else { x % bound }
-    }
-
-    fn byte(&mut self, percent: u64) -> u8 {
-        let mut byte: u8 = 0;
-        for k in 0..8u32 {
-            if self.below(100) >= percent {
-                byte |= 1 << k;
-            }
-        }
-        byte
     }
 
     // The validity bits of some slots, from a whole byte on.
     fn bits(&mut self, slots: u32, nulls: Nulls) -> Result<Option<u64>, AllocError> {
-        let start = self.validity.len() as u64;
+        let validity = &mut self.table.validity;
+        let start = validity.len() as u64;
         let bytes = slots / 8 + 1;
         match nulls {
             Nulls::NoBuffer => return Ok(None),
             Nulls::Percent(percent) => {
-                for _ in 0..bytes {
-                    let byte = self.byte(percent);
-                    self.validity.push(byte)?;
-                }
+                validity.extend((0..bytes).map(|_| self.random.byte(percent)))?;
             }
             Nulls::EveryTenth => {
                 let pattern: [u8; 5] = [254, 251, 239, 191, 255];
-                for i in 0..bytes {
-                    self.validity.push(pattern[i as usize % 5])?;
-                }
+                validity.extend(pattern.iter().copied().cycle().take(bytes as usize))?;
             }
         }
         Ok(Some(start.wrapping_mul(8)))
     }
 
-    fn push(&mut self, node: Node) -> Result<(), AllocError> {
-        self.nodes.push(node)?;
-        Ok(())
-    }
-
-    fn leaf(&mut self, parent: u8, slots: u32, nulls: Nulls) -> Result<(), AllocError> {
+    // A node of a kind, with its validity and no more.
+    fn node(
+        &mut self,
+        parent: u8,
+        kind: Kind,
+        slots: u32,
+        nulls: Nulls,
+    ) -> Result<Node, AllocError> {
         let validity = self.bits(slots, nulls)?;
-        self.push(plain(parent, 0, slots, validity))
-    }
-
-    // Lists of 5 to 15 elements each, by 32-bit offsets; answers how many elements they have in all.
-    fn lists(&mut self, parent: u8, slots: u32, nulls: Nulls) -> Result<u32, AllocError> {
-        let validity = self.bits(slots, nulls)?;
-        let offsets = self.offsets32.len() as u64;
-        let mut at: i32 = 0;
-        self.offsets32.push(at)?;
-        for _ in 0..slots {
-            at = at.wrapping_add(self.length());
-            self.offsets32.push(at)?;
-        }
-        self.push(Node {
-            offsets,
-            ..plain(parent, 2, slots, validity)
-        })?;
-        Ok(at.unsigned_abs())
-    }
-
-    fn length(&mut self) -> i32 {
-        5 + self.below(11) as i32
-    }
-
-    // The same by 64-bit offsets.
-    fn large_lists(&mut self, parent: u8, slots: u32, nulls: Nulls) -> Result<u32, AllocError> {
-        let validity = self.bits(slots, nulls)?;
-        let offsets = self.offsets64.len() as u64;
-        let mut at: i32 = 0;
-        self.offsets64.push(0)?;
-        for _ in 0..slots {
-            at = at.wrapping_add(self.length());
-            self.offsets64.push(at as i64)?;
-        }
-        self.push(Node {
-            offsets,
-            ..plain(parent, 3, slots, validity)
-        })?;
-        Ok(at.unsigned_abs())
-    }
-
-    // The same as views whose spans follow one another.
-    fn views(&mut self, parent: u8, slots: u32, nulls: Nulls) -> Result<u32, AllocError> {
-        let validity = self.bits(slots, nulls)?;
-        let sizes = self.offsets32.len() as u64;
-        let mut lengths = Vec::new(*self.offsets32.allocator());
-        for _ in 0..slots {
-            let length = self.length();
-            lengths.push(length)?;
-            self.offsets32.push(length)?;
-        }
-        let offsets = self.offsets32.len() as u64;
-        let mut at: i32 = 0;
-        for length in lengths.as_slice() {
-            self.offsets32.push(at)?;
-            at = at.wrapping_add(*length);
-        }
-        self.push(Node {
-            offsets,
-            sizes,
-            ..plain(parent, 5, slots, validity)
-        })?;
-        Ok(at.unsigned_abs())
-    }
-}
-
-fn plain(parent: u8, kind: u8, slots: u32, validity: Option<u64>) -> Node {
-    Node {
-        parent,
-        kind,
-        nullable: true,
-        slots,
-        size: 0,
-        validity,
-        offsets: 0,
-        sizes: 0,
-    }
-}
-
-#[derive(Clone, Copy)]
-enum Case {
-    LeafWithoutBits,
-    LeafValid,
-    LeafEveryTenth,
-    LeafRandom,
-    StructOverLeaf,
-    Lists,
-    NullLists,
-    LargeLists,
-    ListsOfLists,
-    NullListsOfLists,
-    StructOverLists,
-    FixedTen,
-    Views,
-}
-
-impl Case {
-    fn name(self) -> &'static str {
-        match self {
-            Case::LeafWithoutBits => "leaf, no validity",
-            Case::LeafValid => "leaf, all valid",
-            Case::LeafEveryTenth => "leaf, every tenth null",
-            Case::LeafRandom => "leaf, 10% null",
-            Case::StructOverLeaf => "struct 10% null over leaf 10% null",
-            Case::Lists => "lists of ten over leaf 10% null",
-            Case::NullLists => "lists 10% null over leaf 10% null",
-            Case::LargeLists => "large lists over leaf 10% null",
-            Case::ListsOfLists => "lists of lists over leaf 10% null",
-            Case::NullListsOfLists => "lists of lists, all 10% null",
-            Case::StructOverLists => "struct 10% null over lists over leaf 10% null",
-            Case::FixedTen => "fixed size ten over leaf 10% null",
-            Case::Views => "views of ten over leaf 10% null",
-        }
-    }
-
-    // A table of about so many leaf slots.
-    fn make(self, heap: Global, slots: u32) -> Result<Shape, AllocError> {
-        let mut s = Shape::new(heap);
-        let tenth = Nulls::Percent(10);
-        let none = Nulls::NoBuffer;
-        match self {
-            Case::LeafWithoutBits => s.leaf(255, slots, none)?,
-            Case::LeafValid => s.leaf(255, slots, Nulls::Percent(0))?,
-            Case::LeafEveryTenth => s.leaf(255, slots, Nulls::EveryTenth)?,
-            Case::LeafRandom => s.leaf(255, slots, tenth)?,
-            Case::StructOverLeaf => {
-                s.group(slots, tenth)?;
-                s.leaf(0, slots, tenth)?;
-            }
-            Case::Lists => {
-                let n = s.lists(255, slots / 10, none)?;
-                s.leaf(0, n, tenth)?;
-            }
-            Case::NullLists => {
-                let n = s.lists(255, slots / 10, tenth)?;
-                s.leaf(0, n, tenth)?;
-            }
-            Case::LargeLists => {
-                let n = s.large_lists(255, slots / 10, none)?;
-                s.leaf(0, n, tenth)?;
-            }
-            Case::ListsOfLists => s.nested(slots, none)?,
-            Case::NullListsOfLists => s.nested(slots, tenth)?,
-            Case::StructOverLists => {
-                s.group(slots / 10, tenth)?;
-                let n = s.lists(0, slots / 10, none)?;
-                s.leaf(1, n, tenth)?;
-            }
-            Case::FixedTen => {
-                s.tens(slots / 10)?;
-                s.leaf(0, slots / 10 * 10, tenth)?;
-            }
-            Case::Views => {
-                let n = s.views(255, slots / 10, none)?;
-                s.leaf(0, n, tenth)?;
-            }
-        }
-        Ok(s)
-    }
-}
-
-impl Shape {
-    fn group(&mut self, slots: u32, nulls: Nulls) -> Result<(), AllocError> {
-        let validity = self.bits(slots, nulls)?;
-        self.push(plain(255, 1, slots, validity))
-    }
-
-    fn tens(&mut self, slots: u32) -> Result<(), AllocError> {
-        self.push(Node {
-            size: 10,
-            ..plain(255, 4, slots, None)
+        Ok(Node {
+            parent,
+            kind: kind as u8,
+            nullable: true,
+            slots,
+            size: 0,
+            validity,
+            offsets: 0,
+            sizes: 0,
         })
     }
 
+    fn leaf(&mut self, parent: u8, slots: u32, nulls: Nulls) -> Result<(), AllocError> {
+        let node = self.node(parent, Kind::Leaf, slots, nulls)?;
+        self.table.add_node(node, None)
+    }
+
+    fn group(&mut self, slots: u32, nulls: Nulls) -> Result<(), AllocError> {
+        let node = self.node(NO_PARENT, Kind::Struct, slots, nulls)?;
+        self.table.add_node(node, None)
+    }
+
+    fn tens(&mut self, slots: u32) -> Result<(), AllocError> {
+        let node = self.node(NO_PARENT, Kind::FixedSizeList, slots, Nulls::NoBuffer)?;
+        self.table.add_node(Node { size: 10, ..node }, None)
+    }
+
+    // Lists of 5 to 15 elements each, whose spans follow one another; answers how many elements they have in all.
+    fn lists(
+        &mut self,
+        parent: u8,
+        kind: Kind,
+        slots: u32,
+        nulls: Nulls,
+    ) -> Result<u32, AllocError> {
+        let mut node = self.node(parent, kind, slots, nulls)?;
+        let lengths = self.random.lengths(self.heap, slots)?;
+        let narrow = &mut self.table.offsets32;
+        let wide = &mut self.table.offsets64;
+        let elements = match kind {
+            Kind::LargeList => {
+                node.offsets = wide.len() as u64;
+                push_offsets(wide, lengths.as_slice())?
+            }
+            Kind::ListView => {
+                node.sizes = narrow.len() as u64;
+                narrow.extend_from_slice(lengths.as_slice())?;
+                node.offsets = narrow.len() as u64;
+                push_starts(narrow, lengths.as_slice())?
+            }
+            _ => {
+                node.offsets = narrow.len() as u64;
+                push_offsets(narrow, lengths.as_slice())?
+            }
+        };
+        self.table.add_node(node, None)?;
+        Ok(elements.unsigned_abs())
+    }
+
     fn nested(&mut self, slots: u32, nulls: Nulls) -> Result<(), AllocError> {
-        let outer = self.lists(255, slots / 100, nulls)?;
-        let inner = self.lists(0, outer, nulls)?;
-        self.leaf(1, inner, Nulls::Percent(10))
+        let outer = self.lists(NO_PARENT, Kind::List, slots / 100, nulls)?;
+        let inner = self.lists(0, Kind::List, outer, nulls)?;
+        self.leaf(1, inner, TENTH)
     }
 
     fn measure(&self) -> Option<Measured> {
-        let source = Source {
-            nodes: self.nodes.as_slice(),
-            validity: self.validity.as_slice(),
-            offsets32: self.offsets32.as_slice(),
-            offsets64: self.offsets64.as_slice(),
-        };
-        let rows = match source.nodes.first() {
-            None => return None,
-            Some(root) => root.slots as usize,
-        };
-        let leaf = source.nodes.len() - 1;
-        match measure(&source, leaf, 0, rows) {
-            Ok(m) => Some(m),
-            Err(_) => None,
-        }
+        let source = self.table.source();
+        let rows = source.nodes.first()?.slots as usize;
+        measure(&source, source.nodes.len() - 1, 0, rows).ok()
     }
 }
 
-// What a stopwatch showed, an entry, in thousandths of a nanosecond.
-fn each(nanos: u128, entries: usize) -> u128 {
-    if entries == 0 {
-        return 0;
+// Where spans of some lengths begin that follow one another; answers where the last one ends.
+fn push_starts<O: From<i32> + Drop>(
+    buffer: &mut Vec<O>,
+    lengths: &[i32],
+) -> Result<i32, AllocError> {
+    let mut at: i32 = 0;
+    for length in lengths {
+        buffer.push(at.into())?;
+        at = at.wrapping_add(*length);
     }
-    nanos.saturating_mul(1000) / entries as u128
+    Ok(at)
 }
 
-fn show(rt: &HostRuntime, what: &str, picos: u128) -> io::Result<()> {
-    let whole = picos / 1000;
-    let part = picos % 1000 / 10;
-    println!(rt; "  {what} {whole}.{part:02} ns an entry")
+// The same, and where the last one ends.
+fn push_offsets<O: From<i32> + Drop>(
+    buffer: &mut Vec<O>,
+    lengths: &[i32],
+) -> Result<i32, AllocError> {
+    let end = push_starts(buffer, lengths)?;
+    buffer.push(end.into())?;
+    Ok(end)
 }
 
-// The least time that filling so many levels took.
-fn fill(rt: &HostRuntime, entries: usize, repeats: u64) -> io::Result<u128> {
-    let mut levels: Vec<i16> = vec![in rt.alloc(); 0; entries]?;
-    let mut least = u128::MAX;
-    for k in 0..repeats {
-        let level = (k % 8) as i16;
-        let start = Instant::now(rt)?;
-        for x in levels.as_mut_slice() {
-            *x = level;
-        }
-        least = least.min(start.elapsed(rt)?.as_nanos());
-    }
-    Ok(least)
-}
-
-// Measures one table, and times it where there are repeats.
-fn run(rt: &HostRuntime, case: Case, slots: u32, repeats: u64) -> io::Result<()> {
-    let shape = case.make(rt.alloc(), slots)?;
-    let name = case.name();
-    let Some(m) = shape.measure() else {
-        return println!(rt; "{name}: refused");
-    };
-    let entries = m.entries;
-    let values = m.values;
-    println!(rt; "{name}: {entries} entries, {values} values")?;
-    if repeats == 0 {
-        return Ok(());
-    }
-    let mut least = u128::MAX;
-    for _ in 0..repeats {
-        let start = Instant::now(rt)?;
-        let _ = shape.measure();
-        least = least.min(start.elapsed(rt)?.as_nanos());
-    }
-    show(rt, "measure", each(least, entries))?;
-    show(
-        rt,
-        "filling one stream of levels",
-        each(fill(rt, entries, repeats)?, entries),
+fn show(rt: &impl Print, what: &str, time: Duration, entries: usize) -> io::Result<()> {
+    let hundredths = share(time, entries, 100);
+    println!(rt;
+        "  {what} {}.{:02} ns an entry",
+        hundredths / 100,
+        hundredths % 100
     )
 }
 
-// The numbers that the program was called with; none stand for a small table and no timing.
-fn arguments(rt: &HostRuntime) -> io::Result<(u32, u64)> {
-    let mut slots = 1000;
-    let mut repeats = 0;
-    for (i, word) in env::args(rt)?.skip(1).enumerate() {
-        if i == 0 {
-            slots = word.as_str().parse().unwrap_or(slots);
-        } else {
-            repeats = word.as_str().parse().unwrap_or(repeats);
-        }
+// Measures the table that `make` makes, and times it where there are repeats.
+fn run<F: FnOnce(&mut Shape) -> Result<(), AllocError>>(
+    rt: &HostRuntime,
+    name: &str,
+    repeats: u64,
+    make: F,
+) -> io::Result<()>
+    requires { F.IsAlwaysCallable make }
+{
+    let mut shape = Shape::new(rt.alloc());
+    make(&mut shape)?;
+    let Some(Measured { entries, values }) = shape.measure() else {
+        return println!(rt; "{name}: refused");
+    };
+    println!(rt; "{name}: {entries} entries, {values} values")?;
+    let measured = least_time(rt, repeats, |_| {
+        let _ = shape.measure();
+    })?;
+    let Some(time) = measured else {
+        return Ok(());
+    };
+    show(rt, "measure", time, entries)?;
+    let mut levels: Vec<i16> = vec![in rt.alloc(); 0; entries]?;
+    let filled = least_time(rt, repeats, |before| {
+        levels.as_mut_slice().fill((before % 8) as i16)
+    })?;
+    if let Some(time) = filled {
+        show(rt, "filling one stream of levels", time, entries)?;
     }
-    Ok((slots.min(100_000_000), repeats))
+    Ok(())
+}
+
+// Tables whose slots are an entry each.
+fn leaves(rt: &HostRuntime, slots: u32, repeats: u64) -> io::Result<()> {
+    for (name, nulls) in [
+        ("leaf, no validity", Nulls::NoBuffer),
+        ("leaf, all valid", Nulls::Percent(0)),
+        ("leaf, every tenth null", Nulls::EveryTenth),
+        ("leaf, 10% null", TENTH),
+    ] {
+        run(rt, name, repeats, |s| s.leaf(NO_PARENT, slots, nulls))?;
+    }
+    run(rt, "struct 10% null over leaf 10% null", repeats, |s| {
+        s.group(slots, TENTH)?;
+        s.leaf(0, slots, TENTH)
+    })
+}
+
+// Lists at the root, so many.
+fn root_lists(rt: &HostRuntime, lists: u32, repeats: u64) -> io::Result<()> {
+    for (name, kind, nulls) in [
+        (
+            "lists of ten over leaf 10% null",
+            Kind::List,
+            Nulls::NoBuffer,
+        ),
+        ("lists 10% null over leaf 10% null", Kind::List, TENTH),
+        (
+            "large lists over leaf 10% null",
+            Kind::LargeList,
+            Nulls::NoBuffer,
+        ),
+    ] {
+        run(rt, name, repeats, |s| {
+            let elements = s.lists(NO_PARENT, kind, lists, nulls)?;
+            s.leaf(0, elements, TENTH)
+        })?;
+    }
+    Ok(())
+}
+
+// Lists below lists and structs, and lists of the other kinds.
+fn other_lists(rt: &HostRuntime, slots: u32, repeats: u64) -> io::Result<()> {
+    let lists = slots / 10;
+    for (name, nulls) in [
+        ("lists of lists over leaf 10% null", Nulls::NoBuffer),
+        ("lists of lists, all 10% null", TENTH),
+    ] {
+        run(rt, name, repeats, |s| s.nested(slots, nulls))?;
+    }
+    run(
+        rt,
+        "struct 10% null over lists over leaf 10% null",
+        repeats,
+        |s| {
+            s.group(lists, TENTH)?;
+            let elements = s.lists(0, Kind::List, lists, Nulls::NoBuffer)?;
+            s.leaf(1, elements, TENTH)
+        },
+    )?;
+    run(rt, "fixed size ten over leaf 10% null", repeats, |s| {
+        s.tens(lists)?;
+        s.leaf(0, slots / 10 * 10, TENTH)
+    })?;
+    run(rt, "views of ten over leaf 10% null", repeats, |s| {
+        let elements = s.lists(NO_PARENT, Kind::ListView, lists, Nulls::NoBuffer)?;
+        s.leaf(0, elements, TENTH)
+    })
 }
 
 fn main(rt: HostRuntime) -> io::Result<()> {
-    let (slots, repeats) = arguments(&rt)?;
-    let cases = [
-        Case::LeafWithoutBits,
-        Case::LeafValid,
-        Case::LeafEveryTenth,
-        Case::LeafRandom,
-        Case::StructOverLeaf,
-        Case::Lists,
-        Case::NullLists,
-        Case::LargeLists,
-        Case::ListsOfLists,
-        Case::NullListsOfLists,
-        Case::StructOverLists,
-        Case::FixedTen,
-        Case::Views,
-    ];
-    for case in cases {
-        run(&rt, case, slots, repeats)?;
-    }
-    Ok(())
+    let Trials {
+        items: slots,
+        repeats,
+    } = arguments(&rt)?;
+    leaves(&rt, slots, repeats)?;
+    root_lists(&rt, slots / 10, repeats)?;
+    other_lists(&rt, slots, repeats)
 }

@@ -5,9 +5,12 @@
 use histogram::Histogram;
 use level_data::LevelData;
 use runs::{Run, RunStore};
-use std::time::Instant;
-use std::{env, io};
+use std::alloc::{AllocError, Global};
+use std::time::{Clock, Duration, Instant};
+use std::{fmt, io};
+use store::levels::Levels;
 use store::stores::LevelStore;
+use timing::{Trials, arguments, least_time, share};
 
 #[derive(Clone, Copy)]
 enum Make {
@@ -17,57 +20,67 @@ enum Make {
     CountedRuns,
 }
 
-impl Make {
-    fn name(self) -> &'static str {
-        match self {
+impl fmt::Display for Make {
+    fn fmt<W: fmt::Write>(&self, f: &mut fmt::Formatter<W>) -> fmt::Result {
+        f.write_str(match self {
             Make::Data => "level data",
             Make::Runs => "runs",
             Make::CountedData => "level data under a histogram",
             Make::CountedRuns => "runs under a histogram",
-        }
+        })
     }
 }
 
-// What one trial held, and the nanoseconds that it took.
+// How many levels a trial appends, in runs of how many.
 #[derive(Clone, Copy)]
-struct Spent {
-    length: u32,
-    sum: u32,
-    write: u128,
-    read: u128,
+struct Load {
+    count: u32,
+    run: u32,
 }
 
-// Appends `count` levels in runs of `run`; neighbouring runs differ.
-fn fill<S: LevelStore>(store: &mut S, count: u32, run: u32) {
-    let run = run.max(1);
-    for k in 0..count / run {
-        let _ = store.append((k % 4) as i16, run);
+impl Load {
+    // Neighbouring runs differ.
+    fn append_to<S: LevelStore>(self, store: &mut S) {
+        let run = self.run.max(1);
+        for k in 0..self.count / run {
+            let _ = store.append((k % 4) as i16, run);
+        }
     }
 }
 
 fn read<S: LevelStore>(store: &S) -> u32 {
-    let mut spot = store.start();
-    let mut sum: u32 = 0;
-    for _ in 0..store.length() {
-        if let Some(level) = store.next(&mut spot) {
-            sum = sum.wrapping_add(u32::from(level.unsigned_abs()));
-        }
-    }
-    sum
+    Levels::new(store).fold(0, |sum: u32, level| {
+        sum.wrapping_add(u32::from(level.unsigned_abs()))
+    })
 }
 
-fn trial<S: LevelStore>(
-    rt: &HostRuntime,
-    store: &mut S,
-    count: u32,
-    run: u32,
-) -> io::Result<Spent> {
+// What a trial held, and the times that it took.
+#[derive(Clone, Copy)]
+struct Spent {
+    length: u32,
+    sum: u32,
+    write: Duration,
+    read: Duration,
+}
+
+impl Spent {
+    // The same, with the lesser times of two trials.
+    fn least(self, again: Spent) -> Spent {
+        Spent {
+            write: self.write.min(again.write),
+            read: self.read.min(again.read),
+            ..self
+        }
+    }
+}
+
+fn trial<S: LevelStore>(rt: &impl Clock, store: &mut S, load: Load) -> io::Result<Spent> {
     let start = Instant::now(rt)?;
-    fill(store, count, run);
-    let write = start.elapsed(rt)?.as_nanos();
+    load.append_to(store);
+    let write = start.elapsed(rt)?;
     let start = Instant::now(rt)?;
     let sum = read(store);
-    let read = start.elapsed(rt)?.as_nanos();
+    let read = start.elapsed(rt)?;
     Ok(Spent {
         length: store.length(),
         sum,
@@ -76,115 +89,88 @@ fn trial<S: LevelStore>(
     })
 }
 
-fn measure(
-    rt: &HostRuntime,
-    make: Make,
-    memory: &mut [i16],
-    records: &mut [Run],
-    count: u32,
-    run: u32,
-) -> io::Result<Spent> {
-    match make {
-        Make::Data => {
-            let mut store = LevelData::new(memory);
-            trial(rt, &mut store, count, run)
-        }
-        Make::Runs => {
-            let mut store = RunStore::new(records);
-            trial(rt, &mut store, count, run)
-        }
-        Make::CountedData => {
-            let mut store = Histogram::new(LevelData::new(memory));
-            trial(rt, &mut store, count, run)
-        }
-        Make::CountedRuns => {
-            let mut store = Histogram::new(RunStore::new(records));
-            trial(rt, &mut store, count, run)
-        }
-    }
+fn show(rt: &impl Print, what: &str, time: Duration, count: u32) -> io::Result<()> {
+    let tenths = share(time, count.max(1) as usize, 10);
+    println!(rt; "    {what}: {}.{} ns a level", tenths / 10, tenths % 10)
 }
 
-fn show(rt: &HostRuntime, what: &str, nanos: u128, count: u32) -> io::Result<()> {
-    let tenths = nanos.saturating_mul(10) / u128::from(count.max(1));
-    let whole = tenths / 10;
-    let part = tenths % 10;
-    println!(rt; "    {what}: {whole}.{part} ns a level")
+// The memory that stores are made over.
+#[derive(Drop)]
+struct Memory {
+    levels: Vec<i16>,
+    records: Vec<Run>,
 }
 
-// Runs one make, and times it where there are repeats.
-fn report(
-    rt: &HostRuntime,
-    make: Make,
-    memory: &mut [i16],
-    records: &mut [Run],
-    count: u32,
-    run: u32,
-    repeats: u32,
-) -> io::Result<()> {
-    let mut spent = measure(rt, make, memory, records, count, run)?;
-    let name = make.name();
-    println!(rt;
-        "{name}, runs of {run}: {} levels, sum {}",
-        spent.length, spent.sum
-    )?;
-    if repeats == 0 {
-        return Ok(());
+impl Memory {
+    // Room for so many levels in each make of store.
+    fn new(heap: Global, count: u32) -> Result<Memory, AllocError> {
+        Ok(Memory {
+            levels: vec![in heap; 0i16; count as usize]?,
+            records: vec![in heap; Run { level: 0, count: 0 }; count as usize]?,
+        })
     }
-    for _ in 0..repeats {
-        let again = measure(rt, make, memory, records, count, run)?;
-        spent.write = spent.write.min(again.write);
-        spent.read = spent.read.min(again.read);
-    }
-    show(rt, "appending", spent.write, count)?;
-    show(rt, "reading in order", spent.read, count)
-}
 
-fn plain(rt: &HostRuntime, memory: &mut [i16], count: u32, repeats: u32) -> io::Result<()> {
-    let mut least = u128::MAX;
-    for k in 0..repeats {
-        let level = (k % 4) as i16;
-        let start = Instant::now(rt)?;
-        for x in memory.iter_mut() {
-            *x = level;
-        }
-        least = least.min(start.elapsed(rt)?.as_nanos());
-    }
-    show(rt, "a plain fill", least, count)
-}
-
-// The numbers that the program was called with; none stand for small stores and no timing.
-fn arguments(rt: &HostRuntime) -> io::Result<(u32, u32)> {
-    let mut count = 1000;
-    let mut repeats = 0;
-    for (i, word) in env::args(rt)?.skip(1).enumerate() {
-        if i == 0 {
-            count = word.as_str().parse().unwrap_or(count);
-        } else {
-            repeats = word.as_str().parse().unwrap_or(repeats);
+    // Each make is a type of its own here: a dyn store would be timed through its table of functions.
+    fn measure(&mut self, rt: &impl Clock, make: Make, load: Load) -> io::Result<Spent> {
+        let levels = self.levels.as_mut_slice();
+        let records = self.records.as_mut_slice();
+        match make {
+            Make::Data => trial(rt, &mut LevelData::new(levels), load),
+            Make::Runs => trial(rt, &mut RunStore::new(records), load),
+            Make::CountedData => trial(rt, &mut Histogram::new(LevelData::new(levels)), load),
+            Make::CountedRuns => trial(rt, &mut Histogram::new(RunStore::new(records)), load),
         }
     }
-    Ok((count.min(100_000_000), repeats))
+
+    // Runs one make, and times it where there are repeats.
+    fn report(
+        &mut self,
+        rt: &(impl Clock + Print),
+        make: Make,
+        load: Load,
+        repeats: u64,
+    ) -> io::Result<()> {
+        let mut spent = self.measure(rt, make, load)?;
+        println!(rt;
+            "{make}, runs of {}: {} levels, sum {}",
+            load.run, spent.length, spent.sum
+        )?;
+        if repeats == 0 {
+            return Ok(());
+        }
+        for _ in 0..repeats {
+            spent = spent.least(self.measure(rt, make, load)?);
+        }
+        show(rt, "appending", spent.write, load.count)?;
+        show(rt, "reading in order", spent.read, load.count)
+    }
+
+    // Times a plain fill where there are repeats.
+    fn report_fill(
+        &mut self,
+        rt: &(impl Clock + Print),
+        count: u32,
+        repeats: u64,
+    ) -> io::Result<()> {
+        let levels = self.levels.as_mut_slice();
+        let filled = least_time(rt, repeats, |before| levels.fill((before % 4) as i16))?;
+        match filled {
+            Some(time) => show(rt, "a plain fill", time, count),
+            None => Ok(()),
+        }
+    }
 }
 
 fn main(rt: HostRuntime) -> io::Result<()> {
-    let (count, repeats) = arguments(&rt)?;
-    let mut memory = vec![in rt.alloc(); 0i16; count as usize]?;
-    let mut records = vec![in rt.alloc(); Run { level: 0, count: 0 }; count as usize]?;
+    let Trials {
+        items: count,
+        repeats,
+    } = arguments(&rt)?;
+    let mut memory = Memory::new(rt.alloc(), count)?;
     for make in [Make::Data, Make::Runs, Make::CountedData, Make::CountedRuns] {
         for run in [count, 10, 1] {
-            report(
-                &rt,
-                make,
-                memory.as_mut_slice(),
-                records.as_mut_slice(),
-                count,
-                run,
-                repeats,
-            )?;
+            memory.report(&rt, make, Load { count, run }, repeats)?;
         }
     }
-    if repeats > 0 {
-        plain(&rt, memory.as_mut_slice(), count, repeats)?;
-    }
-    Ok(())
+    memory.report_fill(&rt, count, repeats)
 }
