@@ -19,7 +19,7 @@ SizedAs b ns k from count None = Unit {0}
 SizedAs b ns k from count (Some x) = (sizes b ns k from count ≡ Some (x.entries, x.values)) × (x.entries ≤ 2147483647) × (x.values ≤ x.entries)
 
 abbrev pub SizedIn : SlotRange → Option Measured → Type 0
-SizedIn s r = SizedAs (inside s.branch) (along s.branch) s.node s.from (s.to - s.from) r
+SizedIn s r = SizedAs (inside s.branch.now) (along s.branch.now) s.node s.from (s.to - s.from) r
 
 -- one count, some entries and another count together
 pub record SumOf (had : Measured) (bare : ℕ) (below x : Measured) : Type 0 where

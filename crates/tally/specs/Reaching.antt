@@ -44,7 +44,7 @@ Reached b ns k from end None = Unit {0}
 Reached b ns k from end (Some x) = Reaches b ns k from end x
 
 abbrev pub ReachedIn : SlotRange → Option Reach → Type 0
-ReachedIn s r = Reached (inside s.branch) (along s.branch) s.node s.from s.to r
+ReachedIn s r = Reached (inside s.branch.now) (along s.branch.now) s.node s.from s.to r
 
 -- c slots from `from` on are valid
 abbrev pub AllValid : Buffers → PathNode → ℕ → ℕ → Type 0

@@ -22,11 +22,11 @@ pub fn is_flat(nodes: &[PathNode], k: usize) -> bool {
 }
 
 // Which of the slots i..i + count have a value below node k; a null in a required node matters only where all above it are valid.
-fn values_below(b: Branch, k: usize, i: usize, count: usize) -> Option<u64>
-    requires node { k < length (along b) }
+fn values_below(b: &Branch, k: usize, i: usize, count: usize) -> Option<u64>
+    requires node { k < length (along b.now) }
     requires few { count ≤ 56 }
-    requires range { i + count ≤ (node_on (along b) k).slots }
-    ensures { HeldBelow (inside b.entry) (drop k (along b.entry)) i count (2 ^ count - 1) result }
+    requires range { i + count ≤ (node_on (along b.now) k).slots }
+    ensures { HeldBelow (inside b.now) (drop k (along b.now)) i count (2 ^ count - 1) result }
 {
     let mut live = ones_below(count);
     for at in k..b.nodes.len() {

@@ -55,12 +55,12 @@ fn same_sized(size: usize, from: usize, c: usize, most: usize) -> Option<Reach>
 }
 
 // c neighbouring slots that are valid.
-fn valid_reach(b: Branch, k: usize, from: usize, c: usize) -> Option<Reach>
-    requires node { k < length (along b) }
+fn valid_reach(b: &Branch, k: usize, from: usize, c: usize) -> Option<Reach>
+    requires node { k < length (along b.now) }
     requires some { 0 < c }
-    requires slots { from + c ≤ (node_on (along b) k).slots }
-    requires valid { AllValid (inside b) (node_on (along b) k) from c }
-    ensures { Reached (inside b.entry) (along b.entry) k from (from + c) result }
+    requires slots { from + c ≤ (node_on (along b.now) k).slots }
+    requires valid { AllValid (inside b.now) (node_on (along b.now) k) from c }
+    ensures { Reached (inside b.now) (along b.now) k from (from + c) result }
 {
     let n = b.nodes[k];
     match n.kind {
@@ -97,8 +97,8 @@ fn alike_reach(slots: SlotRange) -> Option<Reach>
 
 // The first of some slots of a list and those behind it whose elements follow one another, slot by slot.
 fn following_reach(slots: SlotRange) -> Option<Reach>
-    requires child { slots.node + 1 < length (along slots.branch) }
-    requires list { Repeats (node_on (along slots.branch) slots.node).kind }
+    requires child { slots.node + 1 < length (along slots.branch.now) }
+    requires list { Repeats (node_on (along slots.branch.now) slots.node).kind }
     requires order { slots.from < slots.to }
     ensures { ReachedIn slots.entry result }
 {

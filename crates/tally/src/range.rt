@@ -6,11 +6,11 @@ use reading::Branch;
 // The slots from..to of one node of a branch.
 #[derive(Clone, Copy, Drop)]
 pub struct SlotRange<'a> {
-    pub branch: Branch<'a>,
+    pub branch: &'a Branch<'a>,
     pub node: usize,
     pub from: usize,
     pub to: usize,
-    ghost on: { node < length branch.nodes.now },
+    ghost on: { node < length branch.now.nodes.now },
     ghost order: { from ≤ to },
-    ghost within: { to ≤ (node_on branch.nodes.now node).slots },
+    ghost within: { to ≤ (node_on branch.now.nodes.now node).slots },
 }

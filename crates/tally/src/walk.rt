@@ -79,7 +79,7 @@ pub fn tally(b: Branch, from: usize, to: usize) -> Option<Measured>
     ensures { Tallied (trace (inside b.entry) (along b.entry) from (to - from)) result }
 {
     tally_at(SlotRange {
-        branch: b,
+        branch: &b,
         node: 0,
         from,
         to,

@@ -13,19 +13,19 @@ either false P (inr e) = inl (sym e)
 
 pub returns-in-Leaf : goal.returns-in-Leaf
 returns-in-Leaf c =
-    let ns = along c.args.b in
+    let ns = along c.args.b.now in
     let at = c.loop-at.at in
     c.loop-at.invariant.2 (Some (bit_and c.loop-at.live c.valid_bits.result)) (λ test is.
-    leaf_holding (inside c.args.b) ns at c.args.i c.args.count c.loop-at.live c.valid_bits.result c.loop-at.invariant.0 test is c.valid_bits.ensures
+    leaf_holding (inside c.args.b.now) ns at c.args.i c.args.count c.loop-at.live c.valid_bits.result c.loop-at.invariant.0 test is c.valid_bits.ensures
     (either (node_on ns at).nullable (bit_and c.loop-at.live c.valid_bits.result ≡ c.loop-at.live) c.else-not-n.either) c.in-Leaf.is)
 
 pub loop-at-preserved : goal.loop-at-preserved
 loop-at-preserved c =
-    let ns = along c.args.b in
+    let ns = along c.args.b.now in
     let at = c.loop-at.at in
-    let child : (at + 1 < length ns) × ((node_on ns at).slots ≤ (node_on ns (at + 1)).slots) = subst (ChildOf ns at (node_on ns at).slots) c.in-Struct.is (c.args.b.sound.child at c.loop-at.invariant.0) in (
+    let child : (at + 1 < length ns) × ((node_on ns at).slots ≤ (node_on ns (at + 1)).slots) = subst (ChildOf ns at (node_on ns at).slots) c.in-Struct.is (c.args.b.now.sound.child at c.loop-at.invariant.0) in (
       child.0,
       omega (arith, child.1, c.loop-at.invariant.1),
-      λ r h. c.loop-at.invariant.2 r (struct_held (inside c.args.b) ns at c.args.i c.args.count c.loop-at.live c.valid_bits.result c.loop-at.invariant.0 c.valid_bits.ensures
+      λ r h. c.loop-at.invariant.2 r (struct_held (inside c.args.b.now) ns at c.args.i c.args.count c.loop-at.live c.valid_bits.result c.loop-at.invariant.0 c.valid_bits.ensures
           (either (node_on ns at).nullable (bit_and c.loop-at.live c.valid_bits.result ≡ c.loop-at.live) c.else-not-n.either) c.in-Struct.is r h),
     )

@@ -7,7 +7,7 @@ use Rattle.tally.proofs.lists.alike_reach.Goals as goal
 
 pub returns : goal.returns
 returns c =
-    let b = inside c.args.slots.branch in
-    let ns = along c.args.slots.branch in
+    let b = inside c.args.slots.branch.now in
+    let ns = along c.args.slots.branch.now in
     subst (Reached b ns c.args.slots.node c.args.slots.from c.args.slots.to) (sym c.then_some.ensures)
-    (null_reach b ns c.args.slots.branch.sound c.args.slots.node c.args.slots.from c.args.slots.on c.args.slots.to c.same_from-c.result c.same_from-c.ensures (sym c.if-is_valid.ensures) (node_on ns c.args.slots.node).nullable refl)
+    (null_reach b ns c.args.slots.branch.now.sound c.args.slots.node c.args.slots.from c.args.slots.on c.args.slots.to c.same_from-c.result c.same_from-c.ensures (sym c.if-is_valid.ensures) (node_on ns c.args.slots.node).nullable refl)

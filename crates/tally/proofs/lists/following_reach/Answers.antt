@@ -6,8 +6,8 @@ use Rattle.tally.proofs.lists.following_reach.Goals.{in-Null-2, in-Empty, in-Spa
 
 pub loop-i-preserved : goal.loop-i-preserved
 loop-i-preserved c =
-    let b = inside c.args.slots.branch in
-    let ns = along c.args.slots.branch in
+    let b = inside c.args.slots.branch.now in
+    let ns = along c.args.slots.branch.now in
     let k = c.args.slots.node in
     let from = c.args.slots.from in
     let i = c.loop-i.i in
@@ -23,13 +23,13 @@ loop-i-preserved c =
 
 pub returns-in-Some-2 : goal.returns-in-Some-2
 returns-in-Some-2 c =
-    let b = inside c.args.slots.branch in
-    let ns = along c.args.slots.branch in
+    let b = inside c.args.slots.branch.now in
+    let ns = along c.args.slots.branch.now in
     reached_over b ns c.args.slots.node c.args.slots.from c.loop-i.i c.args.slots.to c.loop-i.span c.loop-i.bare c.requires.child (some_begun b ns c.args.slots.node c.args.slots.from c.loop-i.i c.loop-i.span c.loop-i.bare c.loop-i.invariant c.in-Some-2.field-0 c.in-Some-2.is) (omega (arith, c.loop-i-test.true)) c.loop-i.invariant c.over.result c.over.ensures
 
 pub returns : goal.returns
 returns c =
-    let b = inside c.args.slots.branch in
-    let ns = along c.args.slots.branch in
+    let b = inside c.args.slots.branch.now in
+    let ns = along c.args.slots.branch.now in
     let e : c.loop-i.i ≡ c.args.slots.to = omega (arith, c.loop-i-test.false, c.loop-i.auto.i-end, c.requires.order) in
     reached_over b ns c.args.slots.node c.args.slots.from c.args.slots.to c.args.slots.to c.loop-i.span c.loop-i.bare c.requires.child c.requires.order (omega arith) (subst (λ i. Follows b ns c.args.slots.node c.args.slots.from i c.loop-i.span c.loop-i.bare) e c.loop-i.invariant) c.over-2.result c.over-2.ensures

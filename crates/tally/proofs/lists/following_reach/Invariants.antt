@@ -3,4 +3,4 @@ use Rattle.tally.proofs.Following.{Follows}
 use Rattle.tally.proofs.lists.following_reach.Given as goal
 
 abbrev pub invariant-loop-i : goal.invariant-loop-i
-invariant-loop-i l = Follows (inside l.slots.branch) (along l.slots.branch) l.slots.node l.slots.from l.i l.span l.bare
+invariant-loop-i l = Follows (inside l.slots.branch.now) (along l.slots.branch.now) l.slots.node l.slots.from l.i l.span l.bare

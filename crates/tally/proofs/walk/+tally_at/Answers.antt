@@ -31,8 +31,8 @@ on b ns k from i end had low e x r below all h s =
 
 pub with_more-requires : goal.with_more-requires
 with_more-requires t c =
-    let b = inside c.args.slots.branch in
-    let ns = along c.args.slots.branch in
+    let b = inside c.args.slots.branch.now in
+    let ns = along c.args.slots.branch.now in
     let x : Reach = c.in_ok-x.x in
     let h : Below b ns c.args.slots.node x c.if-x.below = elim c.if-x.branch [
       | then-x w ↦ none b ns c.args.slots.node x c.if-x.below w.if-x.true w.default-below.result w.default-below.ensures w.below-is
@@ -43,8 +43,8 @@ with_more-requires t c =
 
 pub loop-from-preserved : goal.loop-from-preserved
 loop-from-preserved t c =
-    let b = inside c.args.slots.branch in
-    let ns = along c.args.slots.branch in
+    let b = inside c.args.slots.branch.now in
+    let ns = along c.args.slots.branch.now in
     let inv = c.loop-from.invariant in
     let x : Reach = c.in_ok-x.x in
     let r : Reaches b ns c.args.slots.node c.loop-from.from c.args.slots.to x = c.in_ok-x.ensures in

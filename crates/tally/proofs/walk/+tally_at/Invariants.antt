@@ -4,7 +4,7 @@ use Rattle.tally.specs.Sizes.{sizes}
 use Rattle.tally.proofs.walk.+tally_at.Given as goal
 
 abbrev pub decreases-tally_at : goal.decreases-tally_at
-decreases-tally_at l = length (along l.slots.branch) - l.slots.node
+decreases-tally_at l = length (along l.slots.branch.now) - l.slots.node
 
 abbrev pub invariant-loop-from : goal.invariant-loop-from
 invariant-loop-from l =
