@@ -10,10 +10,10 @@ use line_fault::{Key, LineFault};
 use part::Value;
 use statement::{Action, NamedNode, Statement};
 use std::alloc::Global;
-use table::Node;
+use table::{NO_PARENT, Node};
 use words::{Words, is_word, words_of};
 
-// An item for each word.
+// An item for each word. The allocator stands beside the words and not in them: half of the functions over words allocate nothing.
 fn each<T: Drop, F: Fn(&[u8]) -> Result<T, LineFault>>(
     heap: Global,
     words: &Words,
@@ -46,7 +46,7 @@ fn node_parts(kind: u8, nullable: bool, words: &Words) -> Result<Node, LineFault
     Ok(Node {
         kind,
         nullable,
-        parent: value_or(words, Key::Parent, 255)?,
+        parent: value_or(words, Key::Parent, NO_PARENT)?,
         slots: value_or(words, Key::Slots, 0)?,
         size: value_or(words, Key::Size, 0)?,
         validity: optional(words, Key::Validity)?,

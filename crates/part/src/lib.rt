@@ -108,7 +108,7 @@ impl Value for Rows {
     }
 }
 
-// The words of the kinds, in the order of their numbers.
+// The words of the kinds, in the order of their numbers: bytes, since a word of a job need not be text, as the Display of a kind is.
 const KINDS: [&[u8]; 7] = [
     b"leaf",
     b"struct",

@@ -4,8 +4,6 @@
 ghost use Rattle.rows.specs.Dremel.{StripeIsDremel};
 
 // A theorem: the entries that rows are striped into are the levels that Dremel defines by their occurrences.
-pub fn stripe_is_dremel<T>() -> u8
+pub fn stripe_is_dremel<T>()
     ensures { StripeIsDremel T }
-{
-    0
-}
+{}

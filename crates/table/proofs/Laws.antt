@@ -1,7 +1,7 @@
 -- What the rules say of a node and of the way to it, as facts for the layers above.
-use Rattle.std.proofs.Common.{◌≡◌, ℕ, zero, suc, ◌+◌, ◌*◌, ◌<◌, ◌≤◌, Bool, true, false, cond, ◌&&◌, eqb, leb, List, [], ◌∷◌, ◌++◌, length, get_or, Some, None, Option, sym, refl, ap, ◌∙◌, subst, inl, inr, arith}
+use Rattle.std.proofs.Common.{◌≡◌, ℕ, zero, suc, ◌+◌, ◌<◌, ◌≤◌, true, cond, ◌&&◌, eqb, List, [], ◌∷◌, ◌++◌, length, get_or, Some, sym, refl, ap, ◌∙◌, subst, inl, inr, arith}
 use Rattle.std.proofs.lemmas.List.{length_push, get_or_push, get_or_append_left}
-use Rattle.std.proofs.lemmas.Bool.{and_parts, leb-true, eqb-true, eq-eqb, cases_eq, cases_lt, both_ways}
+use Rattle.std.proofs.lemmas.Bool.{and_parts, leb-true, eqb-true, eq-eqb, cases_eq, cases_lt}
 use Rattle.table.specs.declared.node.Node.{Node}
 use Rattle.table.specs.declared.node.Kind.{Kind}
 use Rattle.table.specs.declared.node.Source.{Source}
@@ -22,13 +22,6 @@ module _ (ns : List Node) (h : table_holds ns ≡ true) (i : ℕ) (l : i < lengt
 
   pub parent_first : 0 < i → parent_of ns i < i
   parent_first p = holds_rising ns h i p l
-
-  pub known_kind : (k : Kind) × (kind_of (node_at ns i).kind ≡ Some k)
-  known_kind = known (kind_of (node_at ns i).kind) by_kind
-    where
-      known : (o : Option Kind) → kind_fits o (node_at ns i).size (children ns i) (length (line ns i)) ≡ true → (k : Kind) × (o ≡ Some k)
-      known None e = let z : ◌≡◌ {A = Bool} true false = sym e in absurd (both_ways true z refl)
-      known (Some k) e = (k, refl)
 
   pub fits_as : (k : Kind) → kind_of (node_at ns i).kind ≡ Some k →
       (size_fits k (node_at ns i).size ≡ true) × (children_fit k (children ns i) ≡ true) × (path_fits k (length (line ns i)) ≡ true)
@@ -71,29 +64,6 @@ module _ (s : Source) (b : buffers_hold s ≡ true) (i : ℕ) (l : i < length s.
   pub slots_few : node.slots ≤ 2147483647
   slots_few = leb-true node.slots 2147483647 held.0
 
-  pub bits_there : (start : ℕ) → node.validity ≡ Some start → start + node.slots ≤ 8 * length s.validity.now
-  bits_there start e =
-      leb-true (start + node.slots) (8 * length s.validity.now) (subst (λ v. validity_fits v node.slots s.validity.now ≡ true) e held.2)
-
-  offsets_as : (k : Kind) → kind_of node.kind ≡ Some k → offsets_fit (Some k) node narrow wide ≡ true
-  offsets_as k e = subst (λ o. offsets_fit o node narrow wide ≡ true) e held.3
-
-  pub list_there : kind_of node.kind ≡ Some Kind.List → node.offsets + (node.slots + 1) ≤ narrow
-  list_there e = leb-true (node.offsets + (node.slots + 1)) narrow (offsets_as Kind.List e)
-
-  pub large_list_there : kind_of node.kind ≡ Some Kind.LargeList → node.offsets + (node.slots + 1) ≤ wide
-  large_list_there e = leb-true (node.offsets + (node.slots + 1)) wide (offsets_as Kind.LargeList e)
-
-  pub view_there : kind_of node.kind ≡ Some Kind.ListView → (node.offsets + node.slots ≤ narrow) × (node.sizes + node.slots ≤ narrow)
-  view_there e =
-      let p = and_parts (leb (node.offsets + node.slots) narrow) (leb (node.sizes + node.slots) narrow) (offsets_as Kind.ListView e) in
-      (leb-true (node.offsets + node.slots) narrow p.0, leb-true (node.sizes + node.slots) narrow p.1)
-
-  pub large_view_there : kind_of node.kind ≡ Some Kind.LargeListView → (node.offsets + node.slots ≤ wide) × (node.sizes + node.slots ≤ wide)
-  large_view_there e =
-      let p = and_parts (leb (node.offsets + node.slots) wide) (leb (node.sizes + node.slots) wide) (offsets_as Kind.LargeListView e) in
-      (leb-true (node.offsets + node.slots) wide p.0, leb-true (node.sizes + node.slots) wide p.1)
-
   abbrev up : Node
   up = node_at s.nodes.now node.parent
 
@@ -104,9 +74,6 @@ module _ (s : Source) (b : buffers_hold s ≡ true) (i : ℕ) (l : i < length s.
 
   pub struct_slots : 0 < i → kind_of up.kind ≡ Some Kind.Struct → node.slots ≡ up.slots
   struct_slots p e = eqb-true node.slots up.slots (subst (λ o. child_fits o up node ≡ true) e (child_as i p held.1))
-
-  pub fixed_slots : 0 < i → kind_of up.kind ≡ Some Kind.FixedSizeList → up.size * up.slots ≤ node.slots
-  fixed_slots p e = leb-true (up.size * up.slots) node.slots (subst (λ o. child_fits o up node ≡ true) e (child_as i p held.1))
 
 -- the way to a node: it ends with the node, and each number on it is the parent of the next
 way_last : (ns : List Node) (k i : ℕ) → 0 < k → (n : ℕ) → length (way ns k i) ≡ n + 1 → get_or (way ns k i) n 0 ≡ i

@@ -1,5 +1,5 @@
 -- The path to a leaf of a table: the nodes on it, the steps that they are, and what `locate` answers.
-use Rattle.std.specs.Prelude.{ℕ, ◌-◌, Bool, false, cond, ◌&&◌, List, [], ◌∷◌, ◌++◌, map, length, replicate, Some, None, Ok, Err, Option, Result, nat_lt}
+use Rattle.std.specs.Prelude.{◌≡◌, ℕ, ◌-◌, ◌<◌, ◌≤◌, Bool, true, false, cond, ◌&&◌, List, [], ◌∷◌, ◌++◌, map, length, replicate, Some, None, Ok, Err, Option, Result, nat_lt}
 use Rattle.rows.specs.Rows.{Path, leaf, struct, list, most, deep}
 use Rattle.table.specs.declared.node.Node.{Node}
 use Rattle.table.specs.declared.node.Kind.{Kind}
@@ -65,6 +65,12 @@ nodes_to ns i = map (path_node ns) (line ns i)
 
 abbrev pub path_of : List Node → ℕ → Path
 path_of ns i = path (nodes_to ns i)
+
+-- in a table that meets the rules the greatest levels of a leaf are at most 15 and 7
+abbrev pub LevelsAreSmall : Type 0
+LevelsAreSmall =
+    (ns : List Node) → table_holds ns ≡ true → (i : ℕ) → i < length ns → is_leaf ns i ≡ true →
+    (most (path_of ns i) 0 ≤ 15) × (deep (path_of ns i) 0 ≤ 7)
 
 -- these nodes in eight places, their count, and the leaf's greatest levels
 abbrev pub leaf_path : List Node → ℕ → LeafPath

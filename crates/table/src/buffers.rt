@@ -26,16 +26,14 @@ fn offsets_fit(kind: Option<Kind>, node: Node, narrow: usize, wide: usize) -> bo
     ensures { result ≡ offsets_fit kind node narrow wide }
 {
     let slots = node.slots as u64;
-    let narrow = narrow as u128;
-    let wide = wide as u128;
+    let room = match kind {
+        Some(Kind::List | Kind::ListView) => narrow as u128,
+        _ => wide as u128,
+    };
     match kind {
-        Some(Kind::List) => is_long_enough(node.offsets, slots + 1, narrow),
-        Some(Kind::LargeList) => is_long_enough(node.offsets, slots + 1, wide),
-        Some(Kind::ListView) => {
-            is_long_enough(node.offsets, slots, narrow) && is_long_enough(node.sizes, slots, narrow)
-        }
-        Some(Kind::LargeListView) => {
-            is_long_enough(node.offsets, slots, wide) && is_long_enough(node.sizes, slots, wide)
+        Some(Kind::List | Kind::LargeList) => is_long_enough(node.offsets, slots + 1, room),
+        Some(Kind::ListView | Kind::LargeListView) => {
+            is_long_enough(node.offsets, slots, room) && is_long_enough(node.sizes, slots, room)
         }
         _ => true,
     }

@@ -10,7 +10,7 @@ use crate::refusal::Refusal;
 use crate::rules::Table;
 
 // A node on the path to a leaf: its number in the table, its kind, and the numbers of its row there.
-#[derive(Clone, Copy, Default, Drop)]
+#[derive(Clone, Copy, Default)]
 pub struct PathNode {
     pub number: usize,
     pub kind: Kind,
@@ -23,8 +23,8 @@ pub struct PathNode {
 }
 
 // The path from the root to a leaf: its nodes in the first `count` places, and the leaf's greatest levels.
-// An array with a count beside it: there is no heap here, and a fixed-capacity vector could not be `Copy`.
-#[derive(Clone, Copy, Drop)]
+// An array with a count beside it: there is no heap here, and these fields are what `path_to` and `locate` promise.
+#[derive(Clone, Copy)]
 pub struct LeafPath {
     pub nodes: [PathNode; 8],
     pub count: usize,
@@ -92,7 +92,7 @@ fn greatest_levels(path: &[PathNode]) -> (u8, u8)
 fn path_in(table: Table, leaf: usize) -> Result<LeafPath, Refusal>
     ensures { result ≡ leaf_answer table.entry.nodes.now leaf }
 {
-    if leaf >= table.nodes.len() || table.nodes[leaf].kind != 0 {
+    if leaf >= table.nodes.len() || table.nodes[leaf].kind != Kind::Leaf as u8 {
         return Err(Refusal::NotALeaf);
     }
     let mut nodes = [PathNode::default(); 8];

@@ -1,12 +1,11 @@
 ghost use Rattle.std.specs.Prelude.{Some};
 ghost use Rattle.table.specs.Kinds.{NumbersKind, kind_word};
 
-use std::error::Error;
 use std::fmt;
 
 // One node of a table, as it is given: plain numbers, none of them checked yet.
 // Kinds and parents stay numbers: `survey` has to be able to refuse a wrong one, which no enum could hold.
-#[derive(Clone, Copy, Drop)]
+#[derive(Clone, Copy, PartialEq, Eq, Debug)]
 pub struct Node {
     pub parent: u8,
     pub kind: u8,
@@ -18,8 +17,11 @@ pub struct Node {
     pub sizes: u64,
 }
 
+// The parent of a root.
+pub const NO_PARENT: u8 = 255;
+
 // A node table and the three buffers that its nodes read.
-#[derive(Clone, Copy, Drop)]
+#[derive(Clone, Copy)]
 pub struct Source<'a> {
     pub nodes: &'a [Node],
     pub validity: &'a [u8],
@@ -28,7 +30,7 @@ pub struct Source<'a> {
 }
 
 // What a node is.
-#[derive(Clone, Copy, PartialEq, Eq, Debug, Default, Drop)]
+#[derive(Clone, Copy, PartialEq, Eq, Debug, Default)]
 pub enum Kind {
     #[default]
     Leaf,
@@ -41,7 +43,7 @@ pub enum Kind {
 }
 
 // A number that no kind has.
-#[derive(Clone, Copy, PartialEq, Eq, Debug, Drop)]
+#[derive(Clone, Copy, PartialEq, Eq, Debug)]
 pub struct UnknownKind {
     pub number: u8,
 }
@@ -80,12 +82,3 @@ impl fmt::Display for Kind {
         })
     }
 }
-
-impl fmt::Display for UnknownKind {
-    fn fmt<W: fmt::Write>(&self, f: &mut fmt::Formatter<W>) -> fmt::Result {
-        let number = self.number;
-        write!(f, "no kind has the number {number}")
-    }
-}
-
-impl Error for UnknownKind {}

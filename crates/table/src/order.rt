@@ -1,10 +1,10 @@
 ghost use Rattle.std.specs.Prelude.{◌≡◌, ℕ, ◌+◌, ◌<◌, ◌≤◌, true, false, length, reverse, Some, MatchOption};
 ghost use Rattle.table.specs.Table.{line, among, placed, Rising};
 
-use crate::node::Node;
+use crate::node::{NO_PARENT, Node};
 
 // The first `count` nodes of a table: each but the root stands behind its parent.
-#[derive(Clone, Copy, Drop)]
+#[derive(Clone, Copy)]
 pub struct Ordered<'a> {
     pub nodes: &'a [Node],
     pub count: usize,
@@ -87,7 +87,7 @@ impl<'a> Ordered<'a> {
     {
         let parent = self.nodes[self.count].parent;
         if self.count == 0 {
-            return parent == 255;
+            return parent == NO_PARENT;
         }
         self.is_above(parent as usize, self.count - 1)
     }

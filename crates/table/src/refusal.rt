@@ -6,7 +6,7 @@ use std::error::Error;
 use std::fmt;
 
 // What is wrong with a slot that a walk has reached.
-#[derive(Clone, Copy, PartialEq, Eq, Debug, Drop)]
+#[derive(Clone, Copy, PartialEq, Eq, Debug)]
 pub enum Cause {
     // a null in a required node
     RequiredNull,
@@ -15,7 +15,7 @@ pub enum Cause {
 }
 
 // Where a walk met something wrong: the node's number, its slot, and the root slot of the row.
-#[derive(Clone, Copy, PartialEq, Eq, Debug, Drop)]
+#[derive(Clone, Copy, PartialEq, Eq, Debug)]
 pub struct Fault {
     pub cause: Cause,
     pub node: usize,
@@ -24,7 +24,7 @@ pub struct Fault {
 }
 
 // Why a call is refused.
-#[derive(Clone, Copy, PartialEq, Eq, Debug, Drop)]
+#[derive(Clone, Copy, PartialEq, Eq, Debug)]
 pub enum Refusal {
     Table,
     Buffers,

@@ -1,6 +1,6 @@
 ghost use Rattle.std.specs.Prelude.{◌≡◌, ◌<◌, true, false, length, MatchResult};
 ghost use Rattle.table.specs.Kinds.{kind_of};
-ghost use Rattle.table.specs.Table.{line, children, size_fits, children_fit, path_fits, kind_fits, table_holds, leaves as leaves_of, shape_answer};
+ghost use Rattle.table.specs.Table.{line, children, kind_fits, table_holds, leaves as leaves_of, shape_answer};
 ghost use Rattle.table.specs.declared.refusal.Refusal.{Refusal as Why};
 
 use crate::node::{Kind, Node};
@@ -8,7 +8,7 @@ use crate::order::Ordered;
 use crate::refusal::Refusal;
 
 // A table that meets the rules of a table, and how many leaves it has.
-#[derive(Clone, Copy, Drop)]
+#[derive(Clone, Copy)]
 pub struct Table<'a> {
     pub nodes: &'a [Node],
     pub leaves: u32,
@@ -28,36 +28,10 @@ fn count_children(nodes: &[Node], of: usize) -> usize
 fn count_leaves(nodes: &[Node]) -> usize
     ensures { result ≡ leaves_of nodes.now }
 {
-    nodes.iter().filter(|node| node.kind == 0).count()
-}
-
-// Of one shape with `path_fits`, and no plainer as one: each answers its own sentence of the rules.
-fn size_fits(kind: Kind, size: u32) -> bool
-    ensures { result ≡ size_fits kind size }
-{
-    match kind {
-        Kind::FixedSizeList => size <= 65535,
-        _ => true,
-    }
-}
-
-fn children_fit(kind: Kind, count: usize) -> bool
-    ensures { result ≡ children_fit kind count }
-{
-    match kind {
-        Kind::Leaf => count == 0,
-        Kind::Struct => true,
-        _ => count == 1,
-    }
-}
-
-fn path_fits(kind: Kind, count: usize) -> bool
-    ensures { result ≡ path_fits kind count }
-{
-    match kind {
-        Kind::Leaf => count <= 8,
-        _ => true,
-    }
+    nodes
+        .iter()
+        .filter(|node| node.kind == Kind::Leaf as u8)
+        .count()
 }
 
 // Whether a node meets the rules of its kind.
@@ -69,8 +43,12 @@ fn fits(ordered: Ordered, i: usize, node: Node) -> bool
         return false;
     };
     let children = count_children(ordered.nodes, i);
-    let path = ordered.depth(i);
-    size_fits(kind, node.size) && children_fit(kind, children) && path_fits(kind, path)
+    match kind {
+        Kind::Leaf => children == 0 && ordered.depth(i) <= 8,
+        Kind::Struct => true,
+        Kind::FixedSizeList => children == 1 && node.size <= 65535,
+        _ => children == 1,
+    }
 }
 
 impl<'a> Table<'a> {
