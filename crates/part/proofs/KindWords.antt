@@ -1,13 +1,18 @@
--- The place of a kind's word among the words of the kinds is its number. Assumes nothing.
-use Rattle.std.proofs.Common.{◌≡◌, ℕ, ◌+◌, Bool, true, false, cond, not, ltb, List, [], ◌∷◌, Some, None, Ok, Option, Result, codes, refl, ◌∙◌, subst}
+-- The place of the first kind whose word a text is, among all kinds, is its number. Assumes nothing.
+use Rattle.std.proofs.Common.{◌≡◌, ℕ, ◌+◌, Bool, true, false, cond, not, ltb, List, [], ◌∷◌, Some, None, Ok, Option, Result, refl, ◌∙◌, subst}
 use Rattle.std.specs.List.{position}
+use Rattle.table.specs.declared.node.Kind.{Kind as NodeKind}
+use Rattle.table.specs.Kinds.{kind_word}
 use Rattle.words.specs.Words.{same}
 use Rattle.line_fault.specs.declared.Key.TheVariants.{Kind}
 use Rattle.line_fault.specs.declared.LineFault.{LineFault}
 use Rattle.part.specs.Reads.{Unsigned, kind_named, KindRead}
 
-abbrev kind_words : List (List ℕ)
-kind_words = codes "leaf" ∷ codes "struct" ∷ codes "list" ∷ codes "large_list" ∷ codes "fixed_size_list" ∷ codes "list_view" ∷ codes "large_list_view" ∷ []
+abbrev all_kinds : List NodeKind
+all_kinds = NodeKind.Leaf ∷ NodeKind.Struct ∷ NodeKind.List ∷ NodeKind.LargeList ∷ NodeKind.FixedSizeList ∷ NodeKind.ListView ∷ NodeKind.LargeListView ∷ []
+
+abbrev pub has_word : List ℕ → NodeKind → Bool
+has_word bs k = same bs (kind_word k)
 
 -- how many tests fail before the first that passes
 abbrev passed : Bool → ℕ → ℕ
@@ -25,11 +30,13 @@ first_of_seven false false false false false true g = refl
 first_of_seven false false false false false false true = refl
 first_of_seven false false false false false false false = refl
 
-place_is : (bs : List ℕ) → position (same bs) kind_words ≡ kind_named bs
-place_is bs = first_of_seven (same bs (codes "leaf")) (same bs (codes "struct")) (same bs (codes "list")) (same bs (codes "large_list")) (same bs (codes "fixed_size_list")) (same bs (codes "list_view")) (same bs (codes "large_list_view"))
+place_is : (bs : List ℕ) → position (has_word bs) all_kinds ≡ kind_named bs
+place_is bs =
+    first_of_seven (has_word bs NodeKind.Leaf) (has_word bs NodeKind.Struct) (has_word bs NodeKind.List) (has_word bs NodeKind.LargeList) (has_word bs NodeKind.FixedSizeList)
+    (has_word bs NodeKind.ListView) (has_word bs NodeKind.LargeListView)
 
-pub kind_found : (bs : List ℕ) (k : ℕ) → Some k ≡ position (same bs) kind_words → KindRead (kind_named bs) bs (Ok k)
+pub kind_found : (bs : List ℕ) (k : ℕ) → Some k ≡ position (has_word bs) all_kinds → KindRead (kind_named bs) bs (Ok k)
 kind_found bs k e = subst (λ (o : Option ℕ). KindRead o bs (Ok k)) (e ∙ place_is bs) refl
 
-pub none_found : (bs : List ℕ) (r : Result ℕ LineFault) → None ≡ position (same bs) kind_words → Unsigned 8 Kind bs r → KindRead (kind_named bs) bs r
+pub none_found : (bs : List ℕ) (r : Result ℕ LineFault) → None ≡ position (has_word bs) all_kinds → Unsigned 8 Kind bs r → KindRead (kind_named bs) bs r
 none_found bs r e h = subst (λ (o : Option ℕ). KindRead o bs r) (e ∙ place_is bs) h

@@ -11,6 +11,7 @@ use numeral::Fault;
 use statement::Rows;
 use std::alloc::Global;
 use std::str::from_utf8;
+use table::Kind;
 use words::is_word;
 
 // What the value of a part may be.
@@ -108,23 +109,15 @@ impl Value for Rows {
     }
 }
 
-// The words of the kinds, in the order of their numbers: bytes, since a word of a job need not be text, as the Display of a kind is.
-const KINDS: [&[u8]; 7] = [
-    b"leaf",
-    b"struct",
-    b"list",
-    b"large_list",
-    b"fixed_size_list",
-    b"list_view",
-    b"large_list_view",
-];
-
-// A kind by its word or its number.
+// A kind by its word or its number, which may be none of a kind's.
 pub fn kind(text: &[u8]) -> Result<u8, LineFault>
     ensures { KindRead (kind_named text.now) text.now result }
 {
-    match KINDS.iter().position(|word| is_word(text, word)) {
-        Some(kind) => Ok(kind as u8),
+    let number = Kind::ALL
+        .iter()
+        .position(|kind| is_word(text, kind.word().as_bytes()));
+    match number {
+        Some(number) => Ok(number as u8),
         None => u8::read(text, Key::Kind),
     }
 }

@@ -1,4 +1,4 @@
-ghost use Rattle.std.specs.Prelude.{Some};
+ghost use Rattle.std.specs.Prelude.{◌≡◌, Some};
 ghost use Rattle.table.specs.Kinds.{NumbersKind, kind_word};
 
 use std::fmt;
@@ -67,11 +67,23 @@ impl TryFrom<u8> for Kind {
     }
 }
 
-impl fmt::Display for Kind {
-    ghost output = { λ kind. Some (kind_word kind) };
+impl Kind {
+    // All kinds, in the order of their numbers.
+    pub const ALL: [Kind; 7] = [
+        Kind::Leaf,
+        Kind::Struct,
+        Kind::List,
+        Kind::LargeList,
+        Kind::FixedSizeList,
+        Kind::ListView,
+        Kind::LargeListView,
+    ];
 
-    fn fmt<W: fmt::Write>(&self, f: &mut fmt::Formatter<W>) -> fmt::Result {
-        f.write_str(match self {
+    // Its word.
+    pub fn word(self) -> &'static str
+        ensures { result.now ≡ kind_word self }
+    {
+        match self {
             Kind::Leaf => "leaf",
             Kind::Struct => "struct",
             Kind::List => "list",
@@ -79,6 +91,15 @@ impl fmt::Display for Kind {
             Kind::FixedSizeList => "fixed_size_list",
             Kind::ListView => "list_view",
             Kind::LargeListView => "large_list_view",
-        })
+        }
+    }
+}
+
+// By hand, as every Display that a clause speaks of: a derived one says nothing of what it writes.
+impl fmt::Display for Kind {
+    ghost output = { λ kind. Some (kind_word kind) };
+
+    fn fmt<W: fmt::Write>(&self, f: &mut fmt::Formatter<W>) -> fmt::Result {
+        f.write_str(self.word())
     }
 }

@@ -61,6 +61,7 @@ impl From<Refusal> for u8 {
     }
 }
 
+// By hand: a derived Display says nothing of what it writes.
 impl fmt::Display for Refusal {
     ghost output = { λ refusal. Some (refusal_name refusal) };
 
