@@ -1,15 +1,19 @@
 // A list that grows over borrowed memory.
 ghost use Rattle.std.specs.Prelude.{◌≡◌, ◌+◌, ◌-◌, ◌<◌, ◌≤◌, min, [], ◌∷◌, ◌++◌, length, take, drop, replicate, slice_range};
 ghost use Rattle.store.specs.Reads.{Read};
+ghost use Rattle.store.specs.declared.growing.TheConstants.{MOST};
 
 use crate::refusal::Refusal;
+
+// No list is longer, however much memory is lent.
+pub const MOST: usize = 2147483647;
 
 // The list is the first `count` elements of the memory. No heap is used here, so the memory is lent, and the count stands beside it.
 #[derive(Drop)]
 pub struct GrowingList<'a, T> {
     memory: &'a mut [T],
     count: u32,
-    ghost within: { count ≤ min (length memory.now) 2147483647 },
+    ghost within: { count ≤ min (length memory.now) MOST },
 }
 
 // Writes `x` into each place. The library's `fill` asks for a clone that cannot fail, which `Copy` does not say.
@@ -29,6 +33,7 @@ fn shift_in<T: Copy>(memory: &mut [T], place: usize, end: usize, x: T)
     memory[place..end + 1].rotate_right(1);
 }
 
+// Each call on a `&mut` says that the memory is still the one lent (`lender`): no type can say it for them.
 impl<'a, T: Copy> GrowingList<'a, T> {
     ghost use Rattle.store.specs.Growing.{list_items, list_memory, list_most, Appended, Written, Inserted};
 
@@ -44,7 +49,7 @@ impl<'a, T: Copy> GrowingList<'a, T> {
     pub fn most(&self) -> u32
         ensures { result ≡ list_most self.now }
     {
-        self.memory.len().min(2147483647) as u32
+        self.memory.len().min(MOST) as u32
     }
 
     pub fn length(&self) -> u32

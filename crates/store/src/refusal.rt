@@ -2,6 +2,7 @@
 ghost use Rattle.std.specs.Prelude.{◌≡◌, Some};
 ghost use Rattle.store.specs.Codes.{code_of, name_of};
 
+use std::error::Error;
 use std::fmt;
 
 #[derive(Clone, Copy, PartialEq, Eq, Debug)]
@@ -24,14 +25,25 @@ impl From<Refusal> for u8 {
     }
 }
 
-// Its name in messages.
+impl Refusal {
+    // Its name in messages.
+    pub fn name(self) -> &'static str
+        ensures { result.now ≡ name_of self }
+    {
+        match self {
+            Refusal::Place => "place",
+            Refusal::NoRoom => "no-room",
+        }
+    }
+}
+
+// By hand, since a derived `Display` would have no contract.
 impl fmt::Display for Refusal {
     ghost output = { λ refusal. Some (name_of refusal) };
 
     fn fmt<W: fmt::Write>(&self, f: &mut fmt::Formatter<W>) -> fmt::Result {
-        match self {
-            Refusal::Place => write!(f, "place"),
-            Refusal::NoRoom => write!(f, "no-room"),
-        }
+        f.write_str(self.name())
     }
 }
+
+impl Error for Refusal {}
