@@ -54,62 +54,48 @@ impl<'a> LevelData<'a> {
         ensures list { list_items self.new.list ≡ replicate count level }
         ensures most { data_most self.new ≡ data_most self.old }
     {
-        let _ = self.list.cut_back(0);
-        let _ = self.list.append(level, count);
+        self.list.cut_back(0).unwrap();
+        self.list.append(level, count).unwrap();
         self.form = Form::Materialized;
     }
 
-    // As a store's `append`; it says the form too.
+    // As a store's `append`, for callers who ask for the form: it says the form too.
     pub fn append(&mut self, level: i16, count: u32) -> Result<(), Refusal>
         ensures levels { Appends data_meaning self.old self.new level count result }
         ensures form { Formed self.old self.new level count result }
     {
-        let most = self.list.most();
+        if count > self.list.most() - LevelStore::length(self) {
+            return Err(Refusal::NoRoom);
+        }
+        if count == 0 {
+            return Ok(());
+        }
         match self.form {
-            Form::Empty => {
-                if count > most {
-                    return Err(Refusal::NoRoom);
-                }
-                if count > 0 {
-                    self.form = Form::Uniform(level, count);
-                }
-                Ok(())
+            Form::Empty => self.form = Form::Uniform(level, count),
+            Form::Uniform(value, held) if value == level => {
+                self.form = Form::Uniform(value, held + count);
             }
             Form::Uniform(value, held) => {
-                if count > most - held {
-                    return Err(Refusal::NoRoom);
-                }
-                if count > 0 {
-                    if value == level {
-                        self.form = Form::Uniform(value, held + count);
-                    } else {
-                        self.materialize(value, held);
-                        let _ = self.list.append(level, count);
-                    }
-                }
-                Ok(())
+                self.materialize(value, held);
+                self.list.append(level, count)?;
             }
-            Form::Materialized => self.list.append(level, count),
+            Form::Materialized => self.list.append(level, count)?,
         }
+        Ok(())
     }
 
-    // As a store's `put`; it says the form too.
+    // As a store's `put`, for callers who ask for the form: it says the form too.
     pub fn put(&mut self, place: u32, level: i16) -> Result<(), Refusal>
         ensures levels { Puts data_meaning self.old self.new place level result }
         ensures form { Written self.new result }
     {
-        match self.form {
-            Form::Empty => Err(Refusal::Place),
-            Form::Uniform(value, held) => {
-                if place >= held {
-                    return Err(Refusal::Place);
-                }
-                self.materialize(value, held);
-                let _ = self.list.put(place, level);
-                Ok(())
-            }
-            Form::Materialized => self.list.put(place, level),
+        if place >= LevelStore::length(self) {
+            return Err(Refusal::Place);
         }
+        if let Form::Uniform(value, held) = self.form {
+            self.materialize(value, held);
+        }
+        self.list.put(place, level)
     }
 }
 
@@ -136,15 +122,9 @@ impl<'a> LevelStore for LevelData<'a> {
 
     fn at(&self, place: u32) -> Result<i16, Refusal> {
         match self.form {
-            Form::Empty => Err(Refusal::Place),
-            Form::Uniform(level, count) => {
-                if place < count {
-                    Ok(level)
-                } else {
-                    Err(Refusal::Place)
-                }
-            }
+            Form::Uniform(level, count) if place < count => Ok(level),
             Form::Materialized => self.list.at(place),
+            _ => Err(Refusal::Place),
         }
     }
 
@@ -160,9 +140,7 @@ impl<'a> LevelStore for LevelData<'a> {
     }
 
     fn next(&self, spot: &mut Spot) -> Option<i16> {
-        let Ok(level) = self.at(spot.offset) else {
-            return None;
-        };
+        let level = self.at(spot.offset).ok()?;
         spot.offset += 1;
         Some(level)
     }
@@ -176,25 +154,14 @@ impl<'a> LevelStore for LevelData<'a> {
     }
 
     fn cut_back(&mut self, kept: u32) -> Result<(), Refusal> {
-        match self.form {
-            Form::Empty => {
-                if kept > 0 {
-                    return Err(Refusal::Place);
-                }
-                Ok(())
-            }
-            Form::Uniform(value, held) => {
-                if kept > held {
-                    return Err(Refusal::Place);
-                }
-                self.form = if kept > 0 {
-                    Form::Uniform(value, kept)
-                } else {
-                    Form::Empty
-                };
-                Ok(())
-            }
-            Form::Materialized => self.list.cut_back(kept),
+        if kept > self.length() {
+            return Err(Refusal::Place);
         }
+        match self.form {
+            Form::Uniform(value, _) if kept > 0 => self.form = Form::Uniform(value, kept),
+            Form::Materialized => self.list.cut_back(kept)?,
+            _ => self.form = Form::Empty,
+        }
+        Ok(())
     }
 }
