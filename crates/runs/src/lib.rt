@@ -1,7 +1,7 @@
 // A store of levels as runs: one record of borrowed memory for levels in a row that are equal.
 #![tactic(auto)]
 
-ghost use Rattle.std.specs.Prelude.{◌≡◌, ◌+◌, ◌<◌, ◌≤◌, ◌++◌, length, take, drop, replicate, slice_set};
+ghost use Rattle.std.specs.Prelude.{◌≡◌, ℕ, ◌+◌, ◌-◌, ◌<◌, ◌≤◌, ◌++◌, length, take, drop, replicate, slice_index_or, slice_set};
 ghost use Rattle.runs.specs.Runs.{spread, NoneEmpty, Located, unless_empty};
 ghost use Rattle.store.specs.Growing.{list_items, list_most};
 ghost use Rattle.store.specs.Stores.{Fresh};
@@ -34,70 +34,97 @@ pub struct RunStore<'a> {
     ghost fits: { total ≤ list_most records.list },
 }
 
-// Puts a record before the one at `index`, unless it stands for no level.
-fn add(list: &mut GrowingList<Run>, index: u32, level: i16, count: u32)
-    requires within { index ≤ length (list_items list.old) }
-    requires room { 0 < count → length (list_items list.old) < list_most list.old }
-    ensures records { list_items list.new ≡ take index (list_items list.old) ++ (unless_empty level count ++ drop index (list_items list.old)) }
-    ensures most { list_most list.new ≡ list_most list.old }
-{
-    if count > 0 {
-        let _ = list.insert(index, Run { level, count });
+impl Run {
+    // Its levels before the one that has `behind` levels behind it.
+    fn before(self, behind: u32) -> Run
+        requires { behind < self.count }
+        ensures { result ≡ record { level = self.level; count = self.count - behind - 1 } }
+    {
+        Run {
+            count: self.count - behind - 1,
+            ..self
+        }
     }
 }
 
-// There is a place for each record, so no call on the list is refused.
+// Puts a record before the one at `index`, unless it stands for no level.
+fn add(list: &mut GrowingList<Run>, index: u32, run: Run)
+    requires within { index ≤ length (list_items list.old) }
+    requires room { 0 < run.count → length (list_items list.old) < list_most list.old }
+    ensures records { list_items list.new ≡ take index (list_items list.old) ++ (unless_empty run.level run.count ++ drop index (list_items list.old)) }
+    ensures most { list_most list.new ≡ list_most list.old }
+{
+    if run.count > 0 {
+        list.insert(index, run).unwrap();
+    }
+}
+
+// There is a place for each record, so no call on the list is refused. What is said of a spot holds for each place that it stands at.
 impl Records<'_> {
+    fn as_slice(&self) -> &[Run]
+        ensures { result.now ≡ list_items self.now.list }
+    {
+        self.list.as_slice()
+    }
+
+    // The record that a spot is in.
+    fn at(&self, spot: Spot) -> Run
+        requires { spot.index < length (list_items self.now.list) }
+        ensures { (d : Run) → result ≡ slice_index_or (list_items self.now.list) spot.index d }
+    {
+        self.as_slice()[spot.index as usize]
+    }
+
     // Appends levels: the last record takes them if its level is the same, and else a new one.
-    fn push(&mut self, level: i16, count: u32)
-        requires some { 0 < count }
-        requires room { length (spread (list_items self.old.list)) + count ≤ list_most self.old.list }
-        ensures levels { spread (list_items self.new.list) ≡ spread (list_items self.old.list) ++ replicate count level }
+    fn push(&mut self, more: Run)
+        requires some { 0 < more.count }
+        requires room { length (spread (list_items self.old.list)) + more.count ≤ list_most self.old.list }
+        ensures levels { spread (list_items self.new.list) ≡ spread (list_items self.old.list) ++ replicate more.count more.level }
         ensures most { list_most self.new.list ≡ list_most self.old.list }
     {
         let end = self.list.length();
-        match self.list.as_slice().last().copied() {
-            Some(run) if run.level == level => {
+        match self.as_slice().last().copied() {
+            Some(run) if run.level == more.level => {
                 let longer = Run {
-                    level,
-                    count: run.count + count,
+                    count: run.count + more.count,
+                    ..more
                 };
-                let _ = self.list.put(end - 1, longer);
+                self.list.put(end - 1, longer).unwrap();
             }
-            _ => {
-                let _ = self.list.append(Run { level, count }, 1);
-            }
+            _ => self.list.append(more, 1).unwrap(),
         }
     }
 
     // Splits the record that a place lies in.
-    fn split(&mut self, spot: Spot, place: u32, level: i16)
-        requires at { Located (list_items self.old.list) place spot }
+    fn split(&mut self, spot: Spot, level: i16)
+        requires at { (place : ℕ) × Located (list_items self.old.list) place spot }
         requires room { length (spread (list_items self.old.list)) ≤ list_most self.old.list }
-        ensures levels { spread (list_items self.new.list) ≡ slice_set (spread (list_items self.old.list)) place level }
+        ensures levels { (place : ℕ) → Located (list_items self.old.list) place spot → spread (list_items self.new.list) ≡ slice_set (spread (list_items self.old.list)) place level }
         ensures most { list_most self.new.list ≡ list_most self.old.list }
     {
-        let run = self.list.as_slice()[spot.index as usize];
-        let before = run.count - spot.offset - 1;
-        let _ = self.list.put(spot.index, Run { level, count: 1 });
-        add(&mut self.list, spot.index + 1, run.level, spot.offset);
-        add(&mut self.list, spot.index, run.level, before);
+        let run = self.at(spot);
+        let behind = Run {
+            count: spot.offset,
+            ..run
+        };
+        self.list.put(spot.index, Run { level, count: 1 }).unwrap();
+        add(&mut self.list, spot.index + 1, behind);
+        add(&mut self.list, spot.index, run.before(spot.offset));
     }
 
     // Takes away the levels from a place on.
-    fn trim(&mut self, spot: Spot, kept: u32)
-        requires { Located (list_items self.old.list) kept spot }
-        ensures levels { spread (list_items self.new.list) ≡ take kept (spread (list_items self.old.list)) }
+    fn trim(&mut self, spot: Spot)
+        requires { (place : ℕ) × Located (list_items self.old.list) place spot }
+        ensures levels { (place : ℕ) → Located (list_items self.old.list) place spot → spread (list_items self.new.list) ≡ take place (spread (list_items self.old.list)) }
         ensures most { list_most self.new.list ≡ list_most self.old.list }
     {
-        let run = self.list.as_slice()[spot.index as usize];
-        let count = run.count - spot.offset - 1;
-        if count == 0 {
-            let _ = self.list.cut_back(spot.index);
+        let kept = self.at(spot).before(spot.offset);
+        if kept.count == 0 {
+            self.list.cut_back(spot.index).unwrap();
             return;
         }
-        let _ = self.list.put(spot.index, Run { count, ..run });
-        let _ = self.list.cut_back(spot.index + 1);
+        self.list.put(spot.index, kept).unwrap();
+        self.list.cut_back(spot.index + 1).unwrap();
     }
 }
 
@@ -119,7 +146,7 @@ impl<'a> RunStore<'a> {
     fn spot_at(&self, index: u32) -> Spot
         ensures { index ≤ length (records self.now) → RunStands self.now result (length (spread (take index (records self.now)))) }
     {
-        let offset = match self.records.list.as_slice().get(index as usize) {
+        let offset = match self.records.as_slice().get(index as usize) {
             Some(run) => run.count - 1,
             None => 0,
         };
@@ -131,7 +158,7 @@ impl<'a> RunStore<'a> {
         requires { place < self.now.total }
         ensures { Located (records self.now) place result }
     {
-        let mut runs = self.records.list.as_slice();
+        let mut runs = self.records.as_slice();
         let mut before = self.total;
         while let Some((run, front)) = runs.split_last() {
             let end = before;
@@ -171,7 +198,7 @@ impl<'a> LevelStore for RunStore<'a> {
             return Err(Refusal::Place);
         }
         let spot = self.find(place);
-        Ok(self.records.list.as_slice()[spot.index as usize].level)
+        Ok(self.records.at(spot).level)
     }
 
     fn start(&self) -> Spot {
@@ -188,7 +215,7 @@ impl<'a> LevelStore for RunStore<'a> {
 
     // The spot's offset counts the levels of its record behind the next one.
     fn next(&self, spot: &mut Spot) -> Option<i16> {
-        let run = self.records.list.as_slice().get(spot.index as usize)?;
+        let run = self.records.as_slice().get(spot.index as usize)?;
         if spot.offset > 0 {
             spot.offset -= 1;
         } else {
@@ -204,7 +231,7 @@ impl<'a> LevelStore for RunStore<'a> {
         if count == 0 {
             return Ok(());
         }
-        self.records.push(level, count);
+        self.records.push(Run { level, count });
         self.total += count;
         Ok(())
     }
@@ -214,7 +241,7 @@ impl<'a> LevelStore for RunStore<'a> {
             return Err(Refusal::Place);
         }
         let spot = self.find(place);
-        self.records.split(spot, place, level);
+        self.records.split(spot, level);
         Ok(())
     }
 
@@ -224,7 +251,7 @@ impl<'a> LevelStore for RunStore<'a> {
         }
         if kept < self.total {
             let spot = self.find(kept);
-            self.records.trim(spot, kept);
+            self.records.trim(spot);
             self.total = kept;
         }
         Ok(())

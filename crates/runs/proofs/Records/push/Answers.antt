@@ -16,11 +16,11 @@ returns-in-Some-clause-levels c =
     let items = list_items c.args.self.now.list in
     let i = length items - 1 in
     let r = c.in-Some.run' in
-    let level = c.args.level in
-    let count = c.args.count in
-    let fits : SFits w16 level = c.ranges.level in
+    let level = c.args.more.level in
+    let count = c.args.more.count in
+    let fits : SFits w16 level = search rules in
     let fits-r : SFits w16 r.level = search rules in
-    let same : r.level ≡ level = sym (to_z-of_z w16 r.level fits-r) ∙ ap (to_z w16) c.if-run-level.true ∙ to_z-of_z w16 level fits in
+    let same : r.level ≡ level = sym (to_z-of_z w16 r.level fits-r) ∙ ap (to_z w16) c.if-run-more.true ∙ to_z-of_z w16 level fits in
     let read : slice_get items i ≡ Some r = ap (λ xs. slice_get xs (length xs - 1)) (sym c.as_slice.ensures) ∙ sym (c.in-Some.ensures ∙ c.last.ensures.value) in
     let here : i < length items = slice_get_within items i r read in
     let is : get_or items i r ≡ r = get_or_from_slice_get items i r r read in
@@ -33,20 +33,23 @@ returns-in-Some-clause-levels c =
     ∙ ap (λ q. spread items ++ replicate count q.level) is
     ∙ ap (λ l. spread items ++ replicate count l) same
 
+pub unwrap-requires-in_default : goal.unwrap-requires-in_default
+unwrap-requires-in_default c = let fit = records_fit (list_items c.args.self.now.list) c.args.self.now.none_empty in search rules
+
 pub invariant_of-self-in_default : goal.invariant_of-self-in_default
 invariant_of-self-in_default c =
     let s = c.args.self.now.list in
     let items = list_items s in
-    let fits : SFits w16 c.args.level = c.ranges.level in
-    let more = grown_if s _ (run_of c.args.level c.args.count) 1 c.append.result (simp to_z-of_z at c.append.ensures.list) (omega (arith, records_fit items c.args.self.now.none_empty)) in
+    let fits : SFits w16 c.args.more.level = search rules in
+    let more = grown_if s _ (run_of c.args.more.level c.args.more.count) 1 c.append.result (c.append.ensures.list) (omega (arith, records_fit items c.args.self.now.none_empty)) in
     let N : List Run → Type 0 = NoneEmpty in
-    record { none_empty = subst N (sym more.list) (All-push (λ (r : Run). 0 < r.count) items (run_of c.args.level c.args.count) c.args.self.now.none_empty c.requires.some) }
+    record { none_empty = subst N (sym more.list) (All-push (λ (r : Run). 0 < r.count) items (run_of c.args.more.level c.args.more.count) c.args.self.now.none_empty c.requires.some) }
 
 pub returns-in_default-clause-levels : goal.returns-in_default-clause-levels
 returns-in_default-clause-levels c =
     let s = c.args.self.now.list in
     let items = list_items s in
-    let one = run_of c.args.level c.args.count in
-    let fits : SFits w16 c.args.level = c.ranges.level in
-    let more = grown_if s _ one 1 c.append.result (simp to_z-of_z at c.append.ensures.list) (omega (arith, records_fit items c.args.self.now.none_empty)) in
+    let one = run_of c.args.more.level c.args.more.count in
+    let fits : SFits w16 c.args.more.level = search rules in
+    let more = grown_if s _ one 1 c.append.result (c.append.ensures.list) (omega (arith, records_fit items c.args.self.now.none_empty)) in
     ap spread more.list ∙ spread-append items (one ∷ []) ∙ ap (λ q. spread items ++ q) (spread_single one)
