@@ -6,14 +6,14 @@ pub mod text;
 use table::Node;
 
 // Rows from..to; a Range of std is not Copy, and cannot be shown.
-#[derive(Clone, Copy, PartialEq, Eq, Debug, Drop)]
+#[derive(Clone, Copy, PartialEq, Eq, Debug)]
 pub struct Rows {
     pub from: u64,
     pub to: u64,
 }
 
 // What the program is to do, and to print.
-#[derive(Clone, Copy, PartialEq, Eq, Debug, Drop)]
+#[derive(Clone, Copy, PartialEq, Eq, Debug)]
 pub enum Action {
     Survey,
     Measure { leaf: u64, rows: Rows },

@@ -33,7 +33,7 @@ impl fmt::Display for NamedNode {
             sizes,
         } = self.node;
         match Kind::try_from(kind) {
-            Ok(kind) => write!(f, "node {kind}")?,
+            Ok(known) => write!(f, "node {known}")?,
             Err(_) => write!(f, "node {kind}")?,
         }
         let nullability = if nullable { "nullable" } else { "required" };
