@@ -80,6 +80,7 @@ pub enum LineFault {
     Memory,
 }
 
+// By hand: thiserror's `#[from]` would keep the error that it comes from, and has no clause.
 impl From<AllocError> for LineFault {
     ghost from_gives = { λ _ fault. fault ≡ Memory };
 
@@ -92,6 +93,6 @@ impl<T: Drop> From<AllocFailed<T>> for LineFault {
     ghost from_gives = { λ _ fault. fault ≡ Memory };
 
     fn from(_e: AllocFailed<T>) -> LineFault {
-        LineFault::Memory
+        Self::Memory
     }
 }
