@@ -1,42 +1,49 @@
--- What a statement gives to a table. Assumes nothing.
-use Rattle.std.specs.Prelude.{ℕ, ℤ, List, [], ◌∷◌, Option, Some, None, cond, ◌==◌, String}
+-- What a table holds, and what a statement gives to it. Assumes nothing.
+use Rattle.std.specs.Prelude.{◌≡◌, ℕ, ℤ, List, [], ◌∷◌, ◌++◌, length, Option, Some, None, cond, ◌==◌, String}
+use Rattle.std.specs.Ordering.{nat_cmp}
+use Rattle.std.specs.BTreeMap.{get}
 use Rattle.std.specs.declared.alloc.Global.{Global}
+use Rattle.job_table.specs.declared.Table.{Table}
 use Rattle.statement.specs.declared.Action.{Action}
 use Rattle.statement.specs.declared.Statement.{Statement}
 use Rattle.statement.specs.declared.Statement.TheVariants as said
 use Rattle.table.specs.declared.node.Node.{Node}
 
--- what stays of what is there: all of it, except where the statement clears
-abbrev pub kept : {X : Type 0} → Statement → List X → List X
-kept said.Clear held = []
-kept _ held = held
+-- the nodes, the name at each node's number, and the buffers
+pub record Contents : Type 0 where
+  pub nodes : List Node
+  pub names : ℕ → Option (String Global)
+  pub validity : List ℕ
+  pub offsets32 : List ℤ
+  pub offsets64 : List ℤ
 
--- what the statement puts behind what is there, by where it puts it
-abbrev pub nodes_of : Statement → List Node
-nodes_of (said.Node given) = given.node ∷ []
-nodes_of _ = []
+abbrev pub contents : Table → Contents
+contents t = record { nodes = t.nodes.items; names = get nat_cmp t.names; validity = t.validity.items; offsets32 = t.offsets32.items; offsets64 = t.offsets64.items }
 
-abbrev pub bytes_of : Statement → List ℕ
-bytes_of (said.Validity bytes) = bytes.items
-bytes_of _ = []
+abbrev pub blank : Contents
+blank = record { nodes = []; names = λ _. None; validity = []; offsets32 = []; offsets64 = [] }
 
-abbrev pub narrow_of : Statement → List ℤ
-narrow_of (said.Offsets32 offsets) = offsets.items
-narrow_of _ = []
+-- with one node more, which has this name or none
+abbrev pub with_node : Node → Option (String Global) → Contents → Contents
+with_node node name c = record c { nodes = c.nodes ++ (node ∷ []); names = λ k. cond (length c.nodes == k) name (c.names k) }
 
-abbrev pub wide_of : Statement → List ℤ
-wide_of (said.Offsets64 offsets) = offsets.items
-wide_of _ = []
+-- once a statement has been taken in
+abbrev pub after : Statement → Contents → Contents
+after (said.Node given) c = with_node given.node given.name c
+after (said.Validity bytes) c = record c { validity = c.validity ++ bytes.items }
+after (said.Offsets32 offsets) c = record c { offsets32 = c.offsets32 ++ offsets.items }
+after (said.Offsets64 offsets) c = record c { offsets64 = c.offsets64 ++ offsets.items }
+after said.Clear c = blank
+after (said.Do _) c = c
 
--- the names by node number, where a node has been put behind so many others
-abbrev pub named_after : {Name : Type 0} → ℕ → Option Name → (ℕ → Option Name) → ℕ → Option Name
-named_after count name names k = cond (count == k) name (names k)
-
--- the same where a statement has been taken in: only a node has a name, and nothing has one once all is cleared
-abbrev pub name_after : Statement → ℕ → (ℕ → Option (String Global)) → ℕ → Option (String Global)
-name_after (said.Node given) count names = named_after count given.name names
-name_after said.Clear count names = λ _. None
-name_after _ count names = names
+-- what a statement does not speak of is left as it is, with its memory
+abbrev pub Untouched : Statement → Table → Table → Type 0
+Untouched (said.Node _) old new = (new.validity ≡ old.validity) × (new.offsets32 ≡ old.offsets32) × (new.offsets64 ≡ old.offsets64)
+Untouched (said.Validity _) old new = (new.nodes ≡ old.nodes) × (new.names ≡ old.names) × (new.offsets32 ≡ old.offsets32) × (new.offsets64 ≡ old.offsets64)
+Untouched (said.Offsets32 _) old new = (new.nodes ≡ old.nodes) × (new.names ≡ old.names) × (new.validity ≡ old.validity) × (new.offsets64 ≡ old.offsets64)
+Untouched (said.Offsets64 _) old new = (new.nodes ≡ old.nodes) × (new.names ≡ old.names) × (new.validity ≡ old.validity) × (new.offsets32 ≡ old.offsets32)
+Untouched said.Clear old new = Unit {0}
+Untouched (said.Do _) old new = new ≡ old
 
 -- what the statement asks to be done
 abbrev pub action_of : Statement → Option Action

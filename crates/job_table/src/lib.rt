@@ -1,10 +1,10 @@
 // The table and its buffers, as the statements give them. Where memory fails, all stays as it was.
 #![tactic(auto)]
 
-ghost use Rattle.std.specs.Prelude.{◌≡◌, ℕ, ◌<◌, [], ◌∷◌, ◌++◌, length, is_ok, IfOk, option_map, option_copied, string_bytes, if◌then◌else◌, IsSome};
+ghost use Rattle.std.specs.Prelude.{◌≡◌, is_ok, IfOk, option_map, option_copied, string_bytes, if◌then◌else◌};
 ghost use Rattle.std.specs.Ordering.{nat_cmp};
-ghost use Rattle.std.specs.BTreeMap.{get, IsEmpty};
-ghost use Rattle.job_table.specs.Given.{kept, nodes_of, bytes_of, narrow_of, wide_of, action_of, named_after, name_after};
+ghost use Rattle.std.specs.BTreeMap.{get};
+ghost use Rattle.job_table.specs.Given.{contents, blank, with_node, after, Untouched, action_of};
 
 use statement::{Action, NamedNode, Statement};
 use std::alloc::{AllocError, Global};
@@ -19,16 +19,11 @@ pub struct Table {
     pub validity: Vec<u8>,
     pub offsets32: Vec<i32>,
     pub offsets64: Vec<i64>,
-    ghost no_name_without_node: { (k : ℕ) → IsSome (get nat_cmp names k) → k < length nodes.items },
 }
 
 impl Table {
     pub fn new(heap: Global) -> Table
-        ensures nodes { result.nodes.items ≡ [] }
-        ensures names { IsEmpty result.names }
-        ensures validity { result.validity.items ≡ [] }
-        ensures offsets32 { result.offsets32.items ≡ [] }
-        ensures offsets64 { result.offsets64.items ≡ [] }
+        ensures { contents result ≡ blank }
     {
         Table {
             nodes: Vec::new(heap),
@@ -40,26 +35,27 @@ impl Table {
     }
 
     pub fn add_node(&mut self, node: Node, name: Option<String>) -> Result<(), AllocError>
-        ensures nodes { self.new.nodes.items ≡ (if is_ok result then self.old.nodes.items ++ (node ∷ []) else self.old.nodes.items) }
-        ensures names { (k : ℕ) → get nat_cmp self.new.names k ≡ (if is_ok result then named_after (length self.old.nodes.items) name (get nat_cmp self.old.names) k else get nat_cmp self.old.names k) }
+        ensures contents { contents self.new ≡ (if is_ok result then with_node node name (contents self.old) else contents self.old) }
         ensures validity { self.new.validity ≡ self.old.validity }
         ensures offsets32 { self.new.offsets32 ≡ self.old.offsets32 }
         ensures offsets64 { self.new.offsets64 ≡ self.old.offsets64 }
     {
         self.nodes.reserve(1)?;
-        if let Some(name) = name {
-            self.names.insert(self.nodes.len(), name)?;
+        let number = self.nodes.len();
+        match name {
+            Some(name) => {
+                self.names.insert(number, name)?;
+            }
+            None => {
+                self.names.remove(&number);
+            }
         }
         self.nodes.push_reserved(node);
         Ok(())
     }
 
     pub fn clear(&mut self)
-        ensures nodes { self.new.nodes.items ≡ [] }
-        ensures names { IsEmpty self.new.names }
-        ensures validity { self.new.validity.items ≡ [] }
-        ensures offsets32 { self.new.offsets32.items ≡ [] }
-        ensures offsets64 { self.new.offsets64.items ≡ [] }
+        ensures { contents self.new ≡ blank }
     {
         self.names.clear();
         self.nodes.clear();
@@ -71,11 +67,8 @@ impl Table {
     // Takes in what a statement gives; the action that it asks for is left to the caller.
     pub fn apply(&mut self, statement: Statement) -> Result<Option<Action>, AllocError>
         ensures action { IfOk result (λ action. action ≡ action_of statement) }
-        ensures nodes { self.new.nodes.items ≡ (if is_ok result then kept statement self.old.nodes.items ++ nodes_of statement else self.old.nodes.items) }
-        ensures names { (k : ℕ) → get nat_cmp self.new.names k ≡ (if is_ok result then name_after statement (length self.old.nodes.items) (get nat_cmp self.old.names) k else get nat_cmp self.old.names k) }
-        ensures validity { self.new.validity.items ≡ (if is_ok result then kept statement self.old.validity.items ++ bytes_of statement else self.old.validity.items) }
-        ensures offsets32 { self.new.offsets32.items ≡ (if is_ok result then kept statement self.old.offsets32.items ++ narrow_of statement else self.old.offsets32.items) }
-        ensures offsets64 { self.new.offsets64.items ≡ (if is_ok result then kept statement self.old.offsets64.items ++ wide_of statement else self.old.offsets64.items) }
+        ensures contents { contents self.new ≡ (if is_ok result then after statement (contents self.old) else contents self.old) }
+        ensures untouched { Untouched statement self.old self.new }
     {
         match statement {
             Statement::Node(NamedNode { node, name }) => self.add_node(node, name)?,
