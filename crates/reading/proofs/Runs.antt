@@ -2,7 +2,7 @@
 use Rattle.std.proofs.Common.{◌≡◌, ℕ, ◌+◌, ◌-◌, ◌*◌, ◌/◌, ◌%◌, ◌^◌, ◌<◌, ◌≤◌, Bool, true, false, cond, not, List, drop, Some, Option, sym, refl, ap, ◌∙◌, subst, ap₂, arith}
 use native.Mathlib.Decide.{dec_lt}
 use lib.Count.{count_trailing_zeros}
-use Rattle.reading.specs.Bits.{bit, valid_in, SameRun}
+use Rattle.reading.specs.Bits.{bit, valid_in, differs, SameRun}
 use Rattle.reading.proofs.Behind.{bit_behind}
 use Rattle.reading.specs.Packed.{packed}
 use Rattle.reading.proofs.Packing.{packed_shr, packed_low, packed_ext, packed_clear, trailing_clear, trailing_inside}
@@ -24,22 +24,18 @@ packed_behind bs s i count =
     let q : s % 8 + i + j ≡ s % 8 + (i + j) = omega arith in
     ap (bit (drop (s / 8) bs)) q ∙ bit_behind bs s (i + j))
 
--- slots that do not differ from t
-abbrev pub differs : Bool → (ℕ → Bool) → ℕ → Bool
-differs t f j = cond t (not (f j)) (f j)
-
 agree : (t x : Bool) → cond t (not x) x ≡ false → x ≡ t
 agree true true e = refl
 agree true false e = sym e
 agree false x e = e
 
 module _ (bs : List ℕ) (start : Option ℕ) (from i end count other : ℕ) (t : Bool) (is : t ≡ valid_in bs start from) (digits : other ≡ packed (differs t (valid_in bs start)) count i) (few : count ≤ 56) (fits : i + count ≤ end)
-    (low : from < i) (had : (k : ℕ) → from ≤ k → k < i → valid_in bs start k ≡ valid_in bs start from) where
-  on : (n : ℕ) → ((k : ℕ) → i ≤ k → k < i + n → differs t (valid_in bs start) k ≡ false) → (k : ℕ) → from ≤ k → k < i + n → valid_in bs start k ≡ valid_in bs start from
-  on n h k l m = elim (dec_lt k i) [ yes p ↦ had k l p | no p ↦ agree t (valid_in bs start k) (h k (omega arith) m) ∙ is ]
+    (low : from < i) (had : (k : ℕ) → from ≤ k → k < i → k < end → valid_in bs start k ≡ valid_in bs start from) where
+  on : (n : ℕ) → i + n ≤ end → ((k : ℕ) → i ≤ k → k < i + n → differs t (valid_in bs start) k ≡ false) → (k : ℕ) → from ≤ k → k < i + n → valid_in bs start k ≡ valid_in bs start from
+  on n m h k l lo = elim (dec_lt k i) [ yes p ↦ had k l p (omega arith) | no p ↦ agree t (valid_in bs start k) (h k (omega arith) lo) ∙ is ]
 
   pub all_same : other ≡ 0 → (k : ℕ) → from ≤ k → k < i + count → valid_in bs start k ≡ valid_in bs start from
-  all_same e = on count (packed_clear (differs t (valid_in bs start)) count i (sym digits ∙ e))
+  all_same e = on count fits (packed_clear (differs t (valid_in bs start)) count i (sym digits ∙ e))
 
   zeros_low : 0 < other → count_trailing_zeros 64 other < count
   zeros_low h = subst (λ n. count_trailing_zeros 64 n < count) (sym digits) (trailing_inside (differs t (valid_in bs start)) 64 count i (omega arith) (subst (λ n. 0 < n) digits h))
@@ -52,7 +48,11 @@ module _ (bs : List ℕ) (start : Option ℕ) (from i end count other : ℕ) (t 
       record {
         some = omega arith;
         inside = omega arith;
-        same = λ k lo hi. on z (λ j a b.
+        same = λ k lo hi. on z (omega arith) (λ j a b.
             let q : i + (j - i) ≡ j = omega arith in
             ap (differs t (valid_in bs start)) (sym q) ∙ trailing_clear (differs t (valid_in bs start)) 64 count i (omega arith) (j - i) (subst (λ n. j - i < count_trailing_zeros 64 n) digits (omega arith)) (omega arith)) k lo (omega arith);
       }
+
+-- all of them alike, down to the last
+pub same_whole : (bs : List ℕ) (start : Option ℕ) (from end : ℕ) → from < end → ((k : ℕ) → from ≤ k → k < end → valid_in bs start k ≡ valid_in bs start from) → SameRun bs start from end (end - from)
+same_whole bs start from end l h = record { some = omega arith; inside = omega arith; same = λ k lo hi. h k lo (omega arith) }

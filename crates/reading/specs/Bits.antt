@@ -1,5 +1,5 @@
 -- Validity bits.
-use Rattle.std.specs.Prelude.{◌≡◌, ℕ, ◌+◌, ◌*◌, ◌/◌, ◌%◌, ◌^◌, ◌<◌, ◌≤◌, Bool, true, List, length, Some, None, Option, ◌==◌, slice_index}
+use Rattle.std.specs.Prelude.{◌≡◌, ℕ, ◌+◌, ◌*◌, ◌/◌, ◌%◌, ◌^◌, ◌<◌, ◌≤◌, Bool, true, cond, not, List, length, Some, None, Option, ◌==◌, slice_index}
 use Rattle.std.proofs.Props.{props}
 
 -- validity bit b is bit b mod 8, from the lowest, of byte b div 8; 1 means valid
@@ -10,6 +10,10 @@ bit bytes b = slice_index bytes (b / 8) / 2 ^ (b % 8) % 2 == 1
 abbrev pub valid_in : List ℕ → Option ℕ → ℕ → Bool
 valid_in bytes None i = true
 valid_in bytes (Some start) i = bit bytes (start + i)
+
+-- slots that are not valid, or null, as one is
+abbrev pub differs : Bool → (ℕ → Bool) → ℕ → Bool
+differs there f i = cond there (not (f i)) (f i)
 
 -- the bits of the first so many slots are in the bytes
 abbrev pub BitsIn : List ℕ → ℕ → Option ℕ → Type 0

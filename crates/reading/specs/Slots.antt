@@ -7,6 +7,7 @@ use Rattle.table.specs.declared.node.Kind.{Kind}
 use Rattle.table.specs.declared.node.Source.{Source}
 use Rattle.table.specs.declared.leaf_path.PathNode.{PathNode}
 use Rattle.reading.specs.declared.slot.Slot.{Slot}
+use Rattle.reading.specs.declared.validity.Validity.{Validity}
 use Rattle.reading.specs.Bits.{valid_in, BitsIn, BitsIn-prop}
 
 -- the buffers that every node reads: validity bytes, and offsets of either width
@@ -69,8 +70,9 @@ slot_by there spans i = cond (there i) (held (spans i)) Slot.Null
 abbrev pub slots_by : (ℕ → Bool) → ℕ → (ℕ → Span) → List Slot
 slots_by there count spans = map (slot_by there spans) (range_with_len 0 count)
 
-abbrev pub slots_of : Buffers → PathNode → ℕ → List Slot
-slots_of b n most = slots_by (valid b n.validity) n.slots (span_at b n n.kind most)
+-- the slots of a list that has this validity
+abbrev pub slots_with : Validity → (ℕ → Span) → List Slot
+slots_with v spans = slots_by (valid_in v.bytes.now v.start) v.slots spans
 
 abbrev pub slot_at : Buffers → PathNode → ℕ → ℕ → Slot
 slot_at b n most i = slot_by (valid b n.validity) (span_at b n n.kind most) i

@@ -2,9 +2,9 @@ ghost use Rattle.reading.specs.Slots.{buffers};
 ghost use Rattle.reading.specs.Sound.{Sound, Sound-prop};
 
 use crate::slot::Slot;
-use crate::slots::{FixedSlots, OffsetSlots, Slots, ViewSlots};
+use crate::slots::slot_of;
 use crate::validity::Validity;
-use table::{Kind, PathNode};
+use table::PathNode;
 
 // The nodes from the root to one leaf, over the buffers that they read.
 #[derive(Clone, Copy, Drop)]
@@ -75,32 +75,14 @@ impl Branch<'_> {
         requires slot { i < (node_on (along self.now) k).slots }
         ensures { result ≡ slot_at (inside self.now) (node_on (along self.now) k) (node_on (along self.now) (k + 1)).slots i }
     {
-        let n = self.nodes[k];
         let most = self.nodes[k + 1].slots;
-        let validity = self.validity(k);
-        match n.kind {
-            Kind::List => OffsetSlots::new(validity, &self.offsets32[n.offsets..], most).slot(i),
-            Kind::LargeList => OffsetSlots::new(validity, &self.offsets64[n.offsets..], most).slot(
-                i,
-            ),
-            Kind::FixedSizeList => FixedSlots::new(validity, n.size, most).slot(i),
-            Kind::ListView => {
-                let offsets = &self.offsets32[n.offsets..];
-                let sizes = &self.offsets32[n.sizes..];
-                ViewSlots::new(validity, offsets, sizes, most).slot(i)
-            }
-            Kind::LargeListView => {
-                let offsets = &self.offsets64[n.offsets..];
-                let sizes = &self.offsets64[n.sizes..];
-                ViewSlots::new(validity, offsets, sizes, most).slot(i)
-            }
-            Kind::Leaf | Kind::Struct => {
-                if validity.is_valid(i) {
-                    Slot::Wrong
-                } else {
-                    Slot::Null
-                }
-            }
-        }
+        slot_of(
+            self.validity,
+            self.offsets32,
+            self.offsets64,
+            self.nodes[k],
+            most,
+            i,
+        )
     }
 }

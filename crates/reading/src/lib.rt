@@ -13,19 +13,15 @@ mod validity;
 pub use bits::{bit_at, ones_below};
 pub use branch::Branch;
 pub use slot::{Offset, Slot};
-pub use slots::{FixedSlots, OffsetSlots, Slots, ViewSlots};
+pub use slots::{FixedSlots, OffsetSlots, Slots, ViewSlots, slot_of};
 pub use validity::Validity;
 
 // A theorem: the trace of a range is the striping of the rows read there, or stops at the first fault that the reading meets.
-pub fn trace_is_striping() -> u8
+pub fn trace_is_striping()
     ensures { TraceIsStriping }
-{
-    0
-}
+{}
 
 // A theorem: the path to a leaf of a source that meets all rules reads only what is in the buffers.
-pub fn sources_are_sound() -> u8
+pub fn sources_are_sound()
     ensures { SourcesAreSound }
-{
-    0
-}
+{}

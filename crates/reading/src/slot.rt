@@ -30,6 +30,21 @@ impl Offset for i64 {
     ghost widens = { λ x y e. e };
 }
 
+// The elements from a place on, so many of them, if they are within a child of `most` slots.
+fn held_within(most: usize, first: usize, size: usize) -> Slot
+    requires { first + size < 18446744073709551616 }
+    ensures { result ≡ held (within most first size) }
+{
+    let end = first + size;
+    if end > most {
+        return Slot::Wrong;
+    }
+    if size == 0 {
+        return Slot::Empty;
+    }
+    Slot::Spanned((first, end))
+}
+
 // The elements from a place on, so many of them, in a child of `most` slots.
 pub fn sized(most: usize, from: i64, size: i64) -> Slot
     ensures { result ≡ held (span_of most from size) }
@@ -40,12 +55,7 @@ pub fn sized(most: usize, from: i64, size: i64) -> Slot
     if size < 0 || from < 0 {
         return Slot::Wrong;
     }
-    let first = from as usize;
-    let end = first + size as usize;
-    if end > most {
-        return Slot::Wrong;
-    }
-    Slot::Spanned((first, end))
+    held_within(most, from as usize, size as usize)
 }
 
 // The elements between two offsets, in a child of `most` slots.
@@ -66,13 +76,5 @@ pub fn fixed(most: usize, size: usize, i: usize) -> Slot
     requires { i * size + size < 18446744073709551616 }
     ensures { result ≡ held (within most (i * size) size) }
 {
-    let first = i * size;
-    let end = first + size;
-    if end > most {
-        return Slot::Wrong;
-    }
-    if size == 0 {
-        return Slot::Empty;
-    }
-    Slot::Spanned((first, end))
+    held_within(most, i * size, size)
 }

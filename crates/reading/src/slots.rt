@@ -1,35 +1,33 @@
-ghost use Rattle.std.specs.Prelude.{◌≡◌, ◌*◌, ◌^◌, ◌<◌, ◌≤◌, ℕ, Bool, map, length, pos, slice_index_or};
+ghost use Rattle.std.specs.Prelude.{◌≡◌, ◌+◌, ◌*◌, ◌^◌, ◌<◌, ◌≤◌, ℕ, map, length, pos, slice_index_or};
 ghost use Rattle.reading.specs.declared.slot.Slot.TheVariants.{Null};
-ghost use Rattle.reading.specs.Bits.{valid_in};
-ghost use Rattle.reading.specs.Slots.{Span, span as span_of, within, listed, held, slots_by};
+ghost use Rattle.reading.specs.declared.validity.Validity.{Validity as ValidityOf};
+ghost use Rattle.reading.specs.Slots.{Span, span as span_of, within, listed, viewed, held, slots_with, slot_at, buffers, NodeIn};
 
 use crate::slot::{Offset, Slot, between, fixed, sized};
 use crate::validity::Validity;
+use table::{Kind, PathNode};
 
 // The slots of a list of any kind.
 pub trait Slots {
-    // which of them are valid, how many they are, and where the elements of each stand in the child
-    ghost there: { Self → ℕ → Bool };
-
-    ghost count: { Self → ℕ };
+    // which of them are valid and how many they are, and where the elements of each stand in the child
+    ghost bits: { Self → ValidityOf };
 
     ghost spans: { Self → ℕ → Span };
 
-    fn is_valid(&self, i: usize) -> bool
-        requires { i < count self.now }
-        ensures { result ≡ there self.now i };
+    fn validity(&self) -> Validity<'_>
+        ensures { result ≡ bits self.now };
 
     // What slot i holds where it is valid.
     fn elements(&self, i: usize) -> Slot
-        requires { i < count self.now }
+        requires { i < (bits self.now).slots }
         ensures { result ≡ held (spans self.now i) };
 
     // What slot i holds: validity is looked at first.
     fn slot(&self, i: usize) -> Slot
-        requires { i < length (slots_by (there self.now) (count self.now) (spans self.now)) }
-        ensures { result ≡ slice_index_or (slots_by (there self.now) (count self.now) (spans self.now)) i Null }
+        requires { i < length (slots_with (bits self.now) (spans self.now)) }
+        ensures { result ≡ slice_index_or (slots_with (bits self.now) (spans self.now)) i Null }
     {
-        if self.is_valid(i) {
+        if self.validity().is_valid(i) {
             self.elements(i)
         } else {
             Slot::Null
@@ -46,30 +44,28 @@ pub struct OffsetSlots<'a, T> {
     pub ghost inside: { validity.slots < length offsets.now },
 }
 
-impl<'a, T> OffsetSlots<'a, T> {
-    pub(crate) fn new(validity: Validity<'a>, offsets: &'a [T], most: usize) -> Self
-        requires { validity.slots < length offsets.now }
+impl<'a, T: Offset> OffsetSlots<'a, T> {
+    // The slots whose offsets stand in a buffer from place `first` on.
+    pub(crate) fn new(validity: Validity<'a>, buffer: &'a [T], first: usize, most: usize) -> Self
+        requires { first + validity.slots < length buffer.now }
         ensures validity { result.validity ≡ validity.entry }
-        ensures offsets { result.offsets ≡ offsets.entry }
-        ensures most { result.most ≡ most }
+        ensures spans { (i : ℕ) → listed result.most (map T.Offset.value result.offsets.now) i ≡ listed most (map T.Offset.value buffer.now) (first + i) }
     {
         OffsetSlots {
             validity,
-            offsets,
+            offsets: &buffer[first..],
             most,
         }
     }
 }
 
 impl<'a, T: Offset> Slots for OffsetSlots<'a, T> {
-    ghost there = { λ s. valid_in s.validity.bytes.now s.validity.start };
-
-    ghost count = { λ s. s.validity.slots };
+    ghost bits = { λ s. s.validity };
 
     ghost spans = { λ s. listed s.most (map T.Offset.value s.offsets.now) };
 
-    fn is_valid(&self, i: usize) -> bool {
-        self.validity.is_valid(i)
+    fn validity(&self) -> Validity<'_> {
+        self.validity
     }
 
     fn elements(&self, i: usize) -> Slot {
@@ -90,33 +86,36 @@ pub struct ViewSlots<'a, T> {
     pub ghost sizes_inside: { validity.slots ≤ length sizes.now },
 }
 
-impl<'a, T> ViewSlots<'a, T> {
-    pub(crate) fn new(validity: Validity<'a>, offsets: &'a [T], sizes: &'a [T], most: usize) -> Self
-        requires offsets { validity.slots ≤ length offsets.now }
-        requires sizes { validity.slots ≤ length sizes.now }
+impl<'a, T: Offset> ViewSlots<'a, T> {
+    // The slots whose offsets and sizes stand in one buffer, each from its first place on.
+    pub(crate) fn new(
+        validity: Validity<'a>,
+        buffer: &'a [T],
+        offset: usize,
+        size: usize,
+        most: usize,
+    ) -> Self
+        requires offsets { offset + validity.slots ≤ length buffer.now }
+        requires sizes { size + validity.slots ≤ length buffer.now }
         ensures validity { result.validity ≡ validity.entry }
-        ensures offsets { result.offsets ≡ offsets.entry }
-        ensures sizes { result.sizes ≡ sizes.entry }
-        ensures most { result.most ≡ most }
+        ensures spans { (i : ℕ) → span_of result.most (slice_index_or (map T.Offset.value result.offsets.now) i (pos 0)) (slice_index_or (map T.Offset.value result.sizes.now) i (pos 0)) ≡ viewed most (map T.Offset.value buffer.now) (offset + i) (size + i) }
     {
         ViewSlots {
             validity,
-            offsets,
-            sizes,
+            offsets: &buffer[offset..],
+            sizes: &buffer[size..],
             most,
         }
     }
 }
 
 impl<'a, T: Offset> Slots for ViewSlots<'a, T> {
-    ghost there = { λ s. valid_in s.validity.bytes.now s.validity.start };
-
-    ghost count = { λ s. s.validity.slots };
+    ghost bits = { λ s. s.validity };
 
     ghost spans = { λ s i. span_of s.most (slice_index_or (map T.Offset.value s.offsets.now) i (pos 0)) (slice_index_or (map T.Offset.value s.sizes.now) i (pos 0)) };
 
-    fn is_valid(&self, i: usize) -> bool {
-        self.validity.is_valid(i)
+    fn validity(&self) -> Validity<'_> {
+        self.validity
     }
 
     fn elements(&self, i: usize) -> Slot {
@@ -139,8 +138,7 @@ impl<'a> FixedSlots<'a> {
     pub(crate) fn new(validity: Validity<'a>, size: usize, most: usize) -> Self
         requires { validity.slots * size < 2 ^ 64 }
         ensures validity { result.validity ≡ validity.entry }
-        ensures size { result.size ≡ size }
-        ensures most { result.most ≡ most }
+        ensures spans { (i : ℕ) → within result.most (i * result.size) result.size ≡ within most (i * size) size }
     {
         FixedSlots {
             validity,
@@ -151,17 +149,47 @@ impl<'a> FixedSlots<'a> {
 }
 
 impl<'a> Slots for FixedSlots<'a> {
-    ghost there = { λ s. valid_in s.validity.bytes.now s.validity.start };
-
-    ghost count = { λ s. s.validity.slots };
+    ghost bits = { λ s. s.validity };
 
     ghost spans = { λ s i. within s.most (i * s.size) s.size };
 
-    fn is_valid(&self, i: usize) -> bool {
-        self.validity.is_valid(i)
+    fn validity(&self) -> Validity<'_> {
+        self.validity
     }
 
     fn elements(&self, i: usize) -> Slot {
         fixed(self.most, self.size, i)
+    }
+}
+
+// What slot i of a node over these buffers holds, in a child of `most` slots; leaves and structs hold no elements.
+pub fn slot_of(
+    bytes: &[u8],
+    offsets32: &[i32],
+    offsets64: &[i64],
+    n: PathNode,
+    most: usize,
+    i: usize,
+) -> Slot
+    requires slot { i < n.slots }
+    requires small { n.slots ≤ 2147483647 }
+    requires inside { NodeIn (buffers bytes.now offsets32.now offsets64.now) n }
+    ensures { result ≡ slot_at (buffers bytes.now offsets32.now offsets64.now) n most i }
+{
+    let validity = Validity {
+        bytes,
+        start: n.validity,
+        slots: n.slots,
+    };
+    match n.kind {
+        Kind::List => OffsetSlots::new(validity, offsets32, n.offsets, most).slot(i),
+        Kind::LargeList => OffsetSlots::new(validity, offsets64, n.offsets, most).slot(i),
+        Kind::FixedSizeList => FixedSlots::new(validity, n.size, most).slot(i),
+        Kind::ListView => ViewSlots::new(validity, offsets32, n.offsets, n.sizes, most).slot(i),
+        Kind::LargeListView => ViewSlots::new(validity, offsets64, n.offsets, n.sizes, most).slot(
+            i,
+        ),
+        Kind::Leaf | Kind::Struct if validity.is_valid(i) => Slot::Wrong,
+        Kind::Leaf | Kind::Struct => Slot::Null,
     }
 }

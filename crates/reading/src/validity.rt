@@ -1,5 +1,5 @@
 ghost use Rattle.std.specs.Prelude.{◌≡◌, ◌+◌, ◌<◌, ◌≤◌};
-ghost use Rattle.reading.specs.Bits.{valid_in, BitsIn, BitsIn-prop, SameRun};
+ghost use Rattle.reading.specs.Bits.{valid_in, differs, BitsIn, BitsIn-prop, SameRun};
 ghost use Rattle.reading.specs.Packed.{packed};
 
 use crate::bits::{bit_at, last_bits, ones_below, word_at};
@@ -32,7 +32,7 @@ impl Validity<'_> {
 
     // Which of the slots i..i + count are valid, slot i lowest.
     pub fn bits(&self, i: usize, count: usize) -> u64
-        requires few { count ≤ 56 }
+        requires few { count ≤ Self.TOGETHER }
         requires range { i + count ≤ self.now.slots }
         ensures { result ≡ packed (valid_in self.now.bytes.now self.now.start) count i }
     {
@@ -50,6 +50,20 @@ impl Validity<'_> {
         }
     }
 
+    // Which of the slots i..i + count are not as one that is valid or null, as told; slot i lowest.
+    fn other_bits(&self, there: bool, i: usize, count: usize) -> u64
+        requires few { count ≤ Self.TOGETHER }
+        requires range { i + count ≤ self.now.slots }
+        ensures { result ≡ packed (differs there (valid_in self.now.bytes.now self.now.start)) count i }
+    {
+        let valid = self.bits(i, count);
+        if there {
+            ones_below(count) - valid
+        } else {
+            valid
+        }
+    }
+
     // How many slots from `from` on, below `end`, are valid or null as that one is.
     #[inline(always)]
     pub fn same_from(&self, from: usize, end: usize) -> usize
@@ -61,20 +75,12 @@ impl Validity<'_> {
             return end - from;
         }
         let first = self.is_valid(from);
-        let mut i = from + 1;
-        // a `step_by` gives where a stride starts, and the last one is shorter: no plainer
-        while i < end {
+        for i in (from + 1..end).step_by(Self::TOGETHER) {
             let count = Self::TOGETHER.min(end - i);
-            let valid = self.bits(i, count);
-            let other = if first {
-                ones_below(count) - valid
-            } else {
-                valid
-            };
+            let other = self.other_bits(first, i, count);
             if other > 0 {
                 return i + other.trailing_zeros() as usize - from;
             }
-            i += count;
         }
         end - from
     }

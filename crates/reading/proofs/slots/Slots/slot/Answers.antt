@@ -1,14 +1,25 @@
-use Rattle.reading.proofs.Places.{slot_place, slot_null, slot_valid}
+use Rattle.std.proofs.Common.{◌<◌, Bool, true, false, cond, sym, ap, ◌∙◌, subst}
+use Rattle.reading.specs.Slots.{held}
+use Rattle.reading.specs.declared.slot.Slot.{Slot}
+use Rattle.reading.proofs.Places.{slot_place, slot_looked}
 use Rattle.reading.proofs.slots.Slots.slot.Goals as goal
 
 pub is_valid-requires : goal.is_valid-requires
-is_valid-requires g c = slot_place (g.Self.Slots.there c.args.self.now) (g.Self.Slots.count c.args.self.now) (g.Self.Slots.spans c.args.self.now) c.args.i c.requires
+is_valid-requires g c =
+    let s = c.args.self.now in
+    subst (λ v. c.args.i < v.slots) (sym c.validity.ensures) (slot_place (g.Self.Slots.bits s) (g.Self.Slots.spans s) c.args.i c.requires)
 
 pub elements-requires : goal.elements-requires
-elements-requires g c = slot_place (g.Self.Slots.there c.args.self.now) (g.Self.Slots.count c.args.self.now) (g.Self.Slots.spans c.args.self.now) c.args.i c.requires
+elements-requires g c =
+    let s = c.args.self.now in
+    slot_place (g.Self.Slots.bits s) (g.Self.Slots.spans s) c.args.i c.requires
 
 pub returns-then-is_valid : goal.returns-then-is_valid
-returns-then-is_valid g c = slot_valid (g.Self.Slots.there c.args.self.now) (g.Self.Slots.count c.args.self.now) (g.Self.Slots.spans c.args.self.now) c.args.i c.requires c.if-is_valid.ensures c.elements.result c.elements.ensures
+returns-then-is_valid g c =
+    let s = c.args.self.now in
+    c.elements.ensures ∙ slot_looked (g.Self.Slots.bits s) (g.Self.Slots.spans s) c.args.i c.requires c.validity.result c.validity.ensures true c.if-is_valid.ensures
 
 pub returns-else-is_valid : goal.returns-else-is_valid
-returns-else-is_valid g c = slot_null (g.Self.Slots.there c.args.self.now) (g.Self.Slots.count c.args.self.now) (g.Self.Slots.spans c.args.self.now) c.args.i c.requires c.if-is_valid.ensures
+returns-else-is_valid g c =
+    let s = c.args.self.now in
+    slot_looked (g.Self.Slots.bits s) (g.Self.Slots.spans s) c.args.i c.requires c.validity.result c.validity.ensures false c.if-is_valid.ensures
