@@ -19,13 +19,13 @@ pub enum Action {
     Measure { leaf: u64, rows: Rows },
 }
 
-#[derive(Drop)]
+#[derive(PartialEq, Eq, Debug, Drop)]
 pub struct NamedNode {
     pub node: Node,
     pub name: Option<String>,
 }
 
-#[derive(Drop)]
+#[derive(PartialEq, Eq, Debug, Drop)]
 pub enum Statement {
     Node(NamedNode),
     Validity(Vec<u8>),
