@@ -113,11 +113,6 @@ begun_on : (span : Option (ℕ × ℕ)) (from i : ℕ) → Begun span from i →
 begun_on None from i h = tt
 begun_on (Some s) from i h = omega arith
 
-pub none_follow : (b : Buffers) (ns : List PathNode) (k from : ℕ) → Follows b ns k from from None 0
-none_follow b ns k from =
-    let z : from - from ≡ 0 = omega arith in
-    record { order = omega arith; fits = omega arith; few = omega arith; begun = tt; size = ap (λ n. sizes b ns k from n) z }
-
 pub some_begun : (b : Buffers) (ns : List PathNode) (k from i : ℕ) (span : Option (ℕ × ℕ)) (bare : ℕ) → Follows b ns k from i span bare → (s : ℕ × ℕ) → span ≡ Some s → from < i
 some_begun b ns k from i span bare h s e = subst (λ o. Begun o from i) e h.begun
 

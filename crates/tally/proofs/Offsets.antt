@@ -45,25 +45,28 @@ same_bits x y n fits last next p q =
     same_test (of_z w64 y) n (nat_abs x) (nat_abs y) (λ e. ap nat_abs (sym last ∙ ap (to_z w64) (sym e) ∙ next))
     (λ e. ap (of_z w64) (sym (same_place x y p q e) ∙ sym last) ∙ of_z-to_z w64 n (omega arith))
 
-module _ (os : List ℤ) (at : ℕ) where
-  pub rises_none : get_or os at (pos 0) ≡ pos (place_at os at) → Rises os at 0
+module _ (os : List ℤ) where
+  pub rises_none : get_or os 0 (pos 0) ≡ pos (place_at os 0) → Rises os 0 0
   rises_none e = record {
-    whole = λ j l m. let q : j ≡ at = omega arith in subst (λ n. get_or os n (pos 0) ≡ pos (place_at os n)) (sym q) e;
+    whole = λ j l m. let q : j ≡ 0 = omega arith in subst (λ n. get_or os n (pos 0) ≡ pos (place_at os n)) (sym q) e;
     up = λ j l m. absurd (omega arith);
   }
 
-  pub rises_more : (c : ℕ) → Rises os at c → get_or os (at + c + 1) (pos 0) ≡ pos (place_at os (at + c + 1)) → place_at os (at + c) ≤ place_at os (at + c + 1) → Rises os at (c + 1)
+  pub rises_more : (c : ℕ) → Rises os 0 c → get_or os (c + 1) (pos 0) ≡ pos (place_at os (c + 1)) → place_at os c ≤ place_at os (c + 1) → Rises os 0 (c + 1)
   rises_more c r w u = record {
-    whole = λ i l m. elim (dec_lt (at + c) i) [ yes p ↦ (let q : i ≡ at + c + 1 = omega arith in subst (λ n. get_or os n (pos 0) ≡ pos (place_at os n)) (sym q) w) | no p ↦ r.whole i l (omega arith) ];
-    up = λ i l m. elim (dec_lt i (at + c)) [ yes p ↦ r.up i l (omega arith) | no p ↦ (let q : i ≡ at + c = omega arith in subst (λ n. place_at os n ≤ place_at os (n + 1)) (sym q) u) ];
+    whole = λ i l m. elim (dec_lt c i) [ yes p ↦ (let q : i ≡ c + 1 = omega arith in subst (λ n. get_or os n (pos 0) ≡ pos (place_at os n)) (sym q) w) | no p ↦ r.whole i l (omega arith) ];
+    up = λ i l m. elim (dec_lt i c) [ yes p ↦ r.up i l (omega arith) | no p ↦ (let q : i ≡ c = omega arith in subst (λ n. place_at os n ≤ place_at os (n + 1)) (sym q) u) ];
   }
 
-pub empties_last : (os : List ℤ) (c at : ℕ) → empties os (c + 1) at ≡ empties os c at + one (eqb (place_at os (at + c)) (place_at os (at + c + 1)))
+empties_last : (os : List ℤ) (c at : ℕ) → empties os (c + 1) at ≡ empties os c at + one (eqb (place_at os (at + c)) (place_at os (at + c + 1)))
 empties_last os zero at = let q : at + 0 ≡ at = omega arith in omega (arith, ap (λ n. one (eqb (place_at os n) (place_at os (n + 1)))) q)
 empties_last os (suc c) at =
     let p : suc c + 1 ≡ suc (c + 1) = omega arith in
     let q : at + 1 + c ≡ at + suc c = omega arith in
     ap (λ n. empties os n at) p ∙ ap (λ x. one (eqb (place_at os at) (place_at os (at + 1))) + x) (empties_last os c (at + 1) ∙ ap (λ n. empties os c (at + 1) + one (eqb (place_at os n) (place_at os (n + 1)))) q) ∙ omega arith
+
+pub empties_more : (os : List ℤ) (c : ℕ) → empties os (c + 1) 0 ≡ empties os c 0 + one (eqb (place_at os c) (place_at os (c + 1)))
+empties_more os c = let q : 0 + c ≡ c = omega arith in empties_last os c 0 ∙ ap (λ n. empties os c 0 + one (eqb (place_at os n) (place_at os (n + 1)))) q
 
 pub rises_all : (os : List ℤ) (at c : ℕ) → Rises os at c → (j m : ℕ) → at ≤ j → j + m ≤ at + c → place_at os j ≤ place_at os (j + m)
 rises_all os at c r j zero l h = let q : j + zero ≡ j = omega arith in subst (λ i. place_at os j ≤ place_at os i) (sym q) (omega arith)

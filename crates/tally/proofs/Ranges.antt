@@ -1,14 +1,14 @@
 -- The sizes of neighbouring slots by those of one range of slots below them.
-use Rattle.std.proofs.Common.{◌≡◌, ℕ, zero, suc, ◌+◌, ◌-◌, ◌*◌, ◌<◌, ◌≤◌, Bool, true, false, cond, eqb, List, map, length, get_or, drop, ℤ, pos, ◌-ℤ◌, Some, None, Option, sym, refl, ap, ◌∙◌, subst, ap₂, mul-le-mul_right, suc-mul, add-mul, arith, eq-eqb, ne_eqb, le-leb}
+use Rattle.std.proofs.Common.{◌≡◌, ℕ, zero, suc, ◌+◌, ◌-◌, ◌*◌, ◌<◌, ◌≤◌, Bool, true, false, cond, eqb, List, map, length, get_or, take, drop, ℤ, pos, ◌-ℤ◌, Some, None, Option, sym, refl, ap, ◌∙◌, subst, ap₂, mul-le-mul_right, suc-mul, add-mul, arith, eq-eqb, ne_eqb, le-leb}
 use native.Mathlib.Decide.{dec_lt}
 use borrow.Author.Differences.{ints}
 use Rattle.std.specs.Bool.{then_some}
-use Rattle.std.proofs.lemmas.List.{map-id}
+use Rattle.std.proofs.lemmas.List.{map-id, get_or-take, get_or-drop, length-take, length-drop}
 use Rattle.rows.specs.Rows.{one}
 use Rattle.table.specs.declared.node.Kind.{Kind}
 use Rattle.table.specs.declared.leaf_path.PathNode.{PathNode}
 use Rattle.reading.specs.Bits.{SameRun}
-use Rattle.reading.specs.Slots.{Buffers, Span, valid, within, span, listed, span_at}
+use Rattle.reading.specs.Slots.{Buffers, SpansIn, Span, valid, within, span, listed, span_at}
 use Rattle.reading.specs.Reading.{node_on}
 use Rattle.reading.specs.Sound.{ChildOf, Sound}
 use Rattle.tally.specs.declared.reach.Reach.{Reach}
@@ -150,11 +150,14 @@ module _ (b : Buffers) (ns : List PathNode) (sound : Sound b ns) (k from : ℕ) 
           size = each_ext g f c from (λ j l m. size_struct b ns k lt j is (there j l m)) ∙ ap (λ z. each_size f z from) e ∙ sym (zero_plus (sizes b ns (k + 1) from (from + c - from)));
         }
 
-    pub lists : (os : List ℤ) → Repeats n.kind → ((j : ℕ) → span_at b n n.kind most j ≡ listed most os (n.offsets + j)) → (r : Option Reach) → Rose os (n.offsets + from) c most r → Reached b ns k from (from + c) r
-    lists os rep spans None h = tt
-    lists os rep spans (Some x) h =
-        let at : ℕ = n.offsets + from in
-        let same : x.slots ≡ c = h.slots in
+    -- os are the offsets behind one number of all of them
+    lists : (all os : List ℤ) → length os ≡ c + 1 → ((j : ℕ) → j < c + 1 → get_or os j (pos 0) ≡ get_or all (n.offsets + from + j) (pos 0)) → Repeats n.kind → ((j : ℕ) → span_at b n n.kind most j ≡ listed most all (n.offsets + j)) → (r : Option Reach) → Rose os most r → Reached b ns k from (from + c) r
+    lists all os long part rep spans None h = tt
+    lists all os long part rep spans (Some x) h =
+        let d : length os - 1 ≡ c = omega arith in
+        let z : 0 + c ≡ c = omega arith in
+        let same : x.slots ≡ c = h.slots ∙ d in
+        let ends : x.to ≡ place_at os (0 + c) = h.ends ∙ ap (place_at os) (d ∙ sym z) in
         record {
           some = subst (λ z. 0 < z) (sym same) some;
           inside = omega arith;
@@ -162,10 +165,14 @@ module _ (b : Buffers) (ns : List PathNode) (sound : Sound b ns) (k from : ℕ) 
           child = λ _. (child_there rep, h.within);
           size =
               ap (λ z. each_size g z from) same
-              ∙ rise_size os f g most c at from h.rises (subst (λ z. z ≤ most) h.ends h.within) (λ j m.
-              let e : n.offsets + (from + j) ≡ at + j = omega arith in
-              size_list b ns k lt (from + j) rep (there (from + j) (omega arith) (omega arith)) (child_there rep) (listed most os (at + j)) (ap (listed most os) (sym e) ∙ sym (spans (from + j))))
-              ∙ sym (ap (λ z. Some (z, 0) plus each_size f (x.to - x.from) x.from) h.bare ∙ ap₂ (λ a z. Some (empties os c at, 0) plus each_size f (z - a) a) h.starts h.ends);
+              ∙ rise_size os f g most c 0 from (subst (Rises os 0) d h.rises) (subst (λ z. z ≤ most) ends h.within) (λ j m.
+              let e : n.offsets + from + j ≡ n.offsets + (from + j) = omega arith in
+              let e' : n.offsets + from + (j + 1) ≡ n.offsets + (from + j) + 1 = omega arith in
+              let j0 : 0 + j ≡ j = omega arith in
+              let p : get_or os j (pos 0) ≡ get_or all (n.offsets + (from + j)) (pos 0) = part j (omega arith) ∙ ap (λ i. get_or all i (pos 0)) e in
+              let q : get_or os (j + 1) (pos 0) ≡ get_or all (n.offsets + (from + j) + 1) (pos 0) = part (j + 1) (omega arith) ∙ ap (λ i. get_or all i (pos 0)) e' in
+              size_list b ns k lt (from + j) rep (there (from + j) (omega arith) (omega arith)) (child_there rep) (listed most os (0 + j)) (ap (listed most os) j0 ∙ ap₂ (λ s t. span most s (t -ℤ s)) p q ∙ sym (spans (from + j))))
+              ∙ sym (ap (λ z. Some (z, 0) plus each_size f (x.to - x.from) x.from) (h.bare ∙ ap (λ l. empties os l 0) d) ∙ ap₂ (λ a z. Some (empties os c 0, 0) plus each_size f (z - a) a) h.starts ends);
         }
 
     pub sized : n.kind ≡ Kind.FixedSizeList → (r : Option Reach) → SameSized n.size from c most r → Reached b ns k from (from + c) r
@@ -188,8 +195,16 @@ module _ (b : Buffers) (ns : List PathNode) (sound : Sound b ns) (k from : ℕ) 
               ∙ sym (ap (λ z. Some (z, 0) plus each_size f (x.to - x.from) x.from) h.bare ∙ ap₂ (λ a z. Some (cond (eqb n.size 0) c 0, 0) plus each_size f (z - a) a) h.starts h.ends);
         }
 
-    pub narrow_lists : n.kind ≡ Kind.List → (r : Option Reach) → Rose (map (λ (x : ℤ). x) b.narrow) (n.offsets + from) c most r → Reached b ns k from (from + c) r
-    narrow_lists is r h = lists b.narrow (subst Repeats (sym is) tt) (λ j. ap (λ z. span_at b n z most j) is) r (subst (λ os. Rose os (n.offsets + from) c most r) (map-id b.narrow) h)
+    -- as many of some offsets as c lists have
+    cut_lists : (all : List ℤ) (many : ℕ) → many ≡ c + 1 → n.offsets + from + c < length all → Repeats n.kind → ((j : ℕ) → span_at b n n.kind most j ≡ listed most all (n.offsets + j)) → (r : Option Reach) → Rose (map (λ (x : ℤ). x) (take many (drop (n.offsets + from) all))) most r → Reached b ns k from (from + c) r
+    cut_lists all many e room rep spans r h =
+        let os : List ℤ = take many (drop (n.offsets + from) all) in
+        let p = length-take many (drop (n.offsets + from) all) in
+        let q = length-drop (n.offsets + from) all in
+        lists all os (omega arith) (λ j l. get_or-take many (drop (n.offsets + from) all) j (pos 0) (omega arith) ∙ get_or-drop (n.offsets + from) all j (pos 0)) rep spans r (subst (λ os. Rose os most r) (map-id os) h)
 
-    pub wide_lists : n.kind ≡ Kind.LargeList → (r : Option Reach) → Rose (map (λ (x : ℤ). x) b.wide) (n.offsets + from) c most r → Reached b ns k from (from + c) r
-    wide_lists is r h = lists b.wide (subst Repeats (sym is) tt) (λ j. ap (λ z. span_at b n z most j) is) r (subst (λ os. Rose os (n.offsets + from) c most r) (map-id b.wide) h)
+    pub narrow_lists : n.kind ≡ Kind.List → (many : ℕ) → many ≡ c + 1 → (r : Option Reach) → Rose (map (λ (x : ℤ). x) (take many (drop (n.offsets + from) b.narrow))) most r → Reached b ns k from (from + c) r
+    narrow_lists is many e = let room = subst (SpansIn b n) is (sound.inside k lt).1 in cut_lists b.narrow many e (omega (arith, fits, room)) (subst Repeats (sym is) tt) (λ j. ap (λ z. span_at b n z most j) is)
+
+    pub wide_lists : n.kind ≡ Kind.LargeList → (many : ℕ) → many ≡ c + 1 → (r : Option Reach) → Rose (map (λ (x : ℤ). x) (take many (drop (n.offsets + from) b.wide))) most r → Reached b ns k from (from + c) r
+    wide_lists is many e = let room = subst (SpansIn b n) is (sound.inside k lt).1 in cut_lists b.wide many e (omega (arith, fits, room)) (subst Repeats (sym is) tt) (λ j. ap (λ z. span_at b n z most j) is)

@@ -1,5 +1,5 @@
 -- What the size of a range of slots says of their trace.
-use Rattle.std.proofs.Common.{◌≡◌, ℕ, zero, suc, ◌+◌, Bool, true, false, List, [], ◌∷◌, ◌++◌, length, Some, None, Option, sym, refl, ap, ◌∙◌, subst, ap₂}
+use Rattle.std.proofs.Common.{◌≡◌, ℕ, zero, suc, ◌+◌, Bool, true, false, List, [], ◌∷◌, ◌++◌, length, ◌-◌, drop, Some, None, Option, sym, refl, ap, ◌∙◌, subst, ap₂}
 use Rattle.std.proofs.lemmas.List.{length-append}
 use Rattle.rows.specs.Rows.{entry}
 use Rattle.table.specs.declared.refusal.Fault.{Fault}
@@ -9,8 +9,10 @@ use Rattle.reading.specs.Slots.{Buffers, Span, valid, span_at}
 use Rattle.reading.specs.Reading.{null_fault, span_fault, child_slots}
 use Rattle.reading.specs.Trace.{Trace, whole, after, ◌then◌, each_trace, may_trace, span_trace, spread_trace, step_trace, trace_at, trace}
 use Rattle.tally.specs.declared.measured.Measured.{Measured}
-use Rattle.tally.specs.Sizes.{Size, ◌plus◌, each_size, may_size, span_size, spread_size, step_size, size_at, sizes}
-use Rattle.tally.specs.Answer.{Tallied, SizedAs}
+use Rattle.tally.specs.Sizes.{Size, ◌plus◌, each_size, may_size, span_size, spread_size, step_size, size_at}
+use Rattle.reading.specs.Along.{inside, along}
+use Rattle.tally.specs.declared.range.SlotRange.{SlotRange}
+use Rattle.tally.specs.Answer.{slots_trace, Tallied, SizedIn}
 
 -- a trace of that size
 abbrev pub OfSize : Trace → Size → Type 0
@@ -61,12 +63,12 @@ slot_of_size b row [] own r d i = (refl, refl, refl)
 slot_of_size b row (n ∷ ns) own r d i =
     step_of_size (step_of n n.kind) n.nullable (valid b n.validity i) (null_fault n i row) (span_fault n i row) (span_at b n n.kind (child_slots ns) i) own r d (trace_at b row ns) (size_at b ns) (λ o q g j. slot_of_size b row ns o q g j) i
 
-trace_of_size : (b : Buffers) (ns : List PathNode) (from count : ℕ) → OfSize (trace b ns from count) (sizes b ns 0 from count)
+trace_of_size : (b : Buffers) (ns : List PathNode) (from count : ℕ) → OfSize (trace b ns from count) (each_size (size_at b ns) count from)
 trace_of_size b ns from count = each_of (λ row. trace_at b row ns 0 0 0 row) (size_at b ns) (λ row. slot_of_size b row ns 0 0 0 row) count from
 
--- a size of the rows is a tally of their trace
-pub tallied : (b : Buffers) (ns : List PathNode) (from count : ℕ) (r : Option Measured) → SizedAs b ns 0 from count r → Tallied (trace b ns from count) r
-tallied b ns from count None h = tt
-tallied b ns from count (Some x) h =
-    let t = subst (OfSize (trace b ns from count)) h.0 (trace_of_size b ns from count) in
+-- a size of some slots is a tally of their trace
+pub tallied : (s : SlotRange) (r : Option Measured) → SizedIn s r → Tallied (slots_trace s) r
+tallied s None h = tt
+tallied s (Some x) h =
+    let t = subst (OfSize (slots_trace s)) h.0 (trace_of_size (inside s.branch.now) (drop s.node (along s.branch.now)) s.from (s.to - s.from)) in
     (t.0, sym t.1, sym t.2, h.1)

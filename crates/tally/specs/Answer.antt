@@ -1,12 +1,16 @@
 -- What a tally says of a range, where it answers.
-use Rattle.std.specs.Prelude.{◌≡◌, ℕ, ◌+◌, ◌-◌, ◌≤◌, List, length, Some, None, Option}
+use Rattle.std.specs.Prelude.{◌≡◌, ℕ, ◌+◌, ◌-◌, ◌≤◌, List, length, drop, Some, None, Option}
 use Rattle.table.specs.declared.leaf_path.PathNode.{PathNode}
 use Rattle.reading.specs.Slots.{Buffers}
-use Rattle.reading.specs.Trace.{Trace}
+use Rattle.reading.specs.Trace.{Trace, trace}
 use Rattle.reading.specs.Along.{inside, along}
 use Rattle.tally.specs.declared.range.SlotRange.{SlotRange}
 use Rattle.tally.specs.declared.measured.Measured.{Measured}
 use Rattle.tally.specs.Sizes.{sizes}
+
+-- what some slots read as, with the levels of rows; for the root's slots, the rows' own trace
+abbrev pub slots_trace : SlotRange → Trace
+slots_trace s = trace (inside s.branch.now) (drop s.node (along s.branch.now)) s.from (s.to - s.from)
 
 -- no fault, and as many entries and values as the trace has
 abbrev pub Tallied : Trace → Option Measured → Type 0

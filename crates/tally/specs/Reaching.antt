@@ -64,19 +64,19 @@ pub record Rises (os : List ℤ) (at c : ℕ) : Type 0 where
   pub whole : (j : ℕ) → at ≤ j → j ≤ at + c → slice_index_or os j (pos 0) ≡ pos (place_at os j)
   pub up : (j : ℕ) → at ≤ j → j < at + c → place_at os j ≤ place_at os (j + 1)
 
--- c lists between rising offsets, as one range below them
-pub record Rising (os : List ℤ) (at c most : ℕ) (x : Reach) : Type 0 where
+-- c lists between c + 1 rising offsets, as one range below them
+pub record Rising (os : List ℤ) (c most : ℕ) (x : Reach) : Type 0 where
   pub slots : x.slots ≡ c
-  pub starts : x.from ≡ place_at os at
-  pub ends : x.to ≡ place_at os (at + c)
+  pub starts : x.from ≡ place_at os 0
+  pub ends : x.to ≡ place_at os c
   pub within : x.to ≤ most
   pub order : x.from ≤ x.to
-  pub rises : Rises os at c
-  pub bare : x.bare ≡ empties os c at
+  pub rises : Rises os 0 c
+  pub bare : x.bare ≡ empties os c 0
 
-abbrev pub Rose : List ℤ → ℕ → ℕ → ℕ → Option Reach → Type 0
-Rose os at c most None = Unit {0}
-Rose os at c most (Some x) = Rising os at c most x
+abbrev pub Rose : List ℤ → ℕ → Option Reach → Type 0
+Rose os most None = Unit {0}
+Rose os most (Some x) = Rising os (length os - 1) most x
 
 -- c lists of one size, as one range below them
 pub record SizedAlike (size from c most : ℕ) (x : Reach) : Type 0 where

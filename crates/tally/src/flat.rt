@@ -11,24 +11,20 @@ use table::{Kind, PathNode};
 
 // Whether only structs lie between node k and its leaf, so that each of its slots is one entry.
 pub fn is_flat(nodes: &[PathNode], k: usize) -> bool {
-    for n in nodes.iter().skip(k) {
-        match n.kind {
-            Kind::Leaf => return true,
-            Kind::Struct => {}
-            _ => return false,
-        }
-    }
-    false
+    let end = nodes.iter().skip(k).find(|n| n.kind != Kind::Struct);
+    end.is_some_and(|n| n.kind == Kind::Leaf)
 }
 
 // Which of the slots i..i + count have a value below node k; a null in a required node matters only where all above it are valid.
+// By a first slot and a count, as `valid_bits` asks for them: a `SlotRange` is no plainer, since both uses would take its length again.
 fn values_below(b: &Branch, k: usize, i: usize, count: usize) -> Option<u64>
     requires node { k < length (along b.now) }
-    requires few { count ≤ 56 }
+    requires few { count ≤ Validity.TOGETHER }
     requires range { i + count ≤ (node_on (along b.now) k).slots }
     ensures { HeldBelow (inside b.now) (drop k (along b.now)) i count (2 ^ count - 1) result }
 {
     let mut live = ones_below(count);
+    // by number: `Branch` asks by it
     for at in k..b.nodes.len() {
         let n = b.nodes[at];
         let valid = live & b.valid_bits(at, i, count);
@@ -38,10 +34,11 @@ fn values_below(b: &Branch, k: usize, i: usize, count: usize) -> Option<u64>
         match n.kind {
             Kind::Leaf => return Some(valid),
             Kind::Struct => live = valid,
+            // lists are not counted here
             _ => return None,
         }
     }
-    None
+    unreachable!()
 }
 
 // The slots of a node below which there is no list: each is one entry, and up to 56 are counted at once.
@@ -52,7 +49,7 @@ pub fn tally_flat(slots: SlotRange) -> Option<Measured>
 {
     let mut i = slots.from;
     let mut values: usize = 0;
-    // a `step_by` gives where a stride starts, and the last one is shorter: no plainer
+    // no `step_by`: measured, leaves take a fifth longer
     while i < slots.to {
         let count = Validity::TOGETHER.min(slots.to - i);
         let held = values_below(slots.branch, slots.node, i, count)?;

@@ -9,4 +9,5 @@ mod reach;
 mod walk;
 
 pub use measured::Measured;
+pub use range::SlotRange;
 pub use walk::{MOST_ENTRIES, tally};

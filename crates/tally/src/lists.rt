@@ -8,18 +8,19 @@ use crate::reach::Reach;
 use reading::{Branch, Offset, Slot};
 use table::Kind;
 
-// The child slots of c neighbouring lists by their offsets, if these rise: one range, and an entry for each empty list.
-fn rising<T: Offset>(offsets: &[T], at: usize, c: usize, most: usize) -> Option<Reach>
-    requires { at + c < length offsets.now }
-    ensures { Rose (map T.Offset.value offsets.now) at c most result }
+// The child slots of neighbouring lists by their offsets, one more than lists, if these rise: one range, and an entry for each empty list.
+fn rising<T: Offset>(offsets: &[T], most: usize) -> Option<Reach>
+    requires { 0 < length offsets.now }
+    ensures { Rose (map T.Offset.value offsets.now) most result }
 {
-    let first: i64 = offsets[at].into();
+    let first: i64 = offsets[0].into();
+    let lists = &offsets[1..];
     let mut last = first;
     // a flag, since the loop is slower where it may end early
     let mut rises = first >= 0;
     let mut bare: usize = 0;
-    for offset in &offsets[at + 1..at + c + 1] {
-        let next: i64 = (*offset).into();
+    for &offset in lists {
+        let next: i64 = offset.into();
         rises &= last <= next;
         bare += usize::from(next == last);
         last = next;
@@ -28,51 +29,61 @@ fn rising<T: Offset>(offsets: &[T], at: usize, c: usize, most: usize) -> Option<
         return None;
     }
     Some(Reach {
-        slots: c,
+        slots: lists.len(),
         from: first as usize,
         to: last as usize,
         bare,
     })
 }
 
-// c neighbouring lists of one size: one range, or an entry each where the size is 0.
-fn same_sized(size: usize, from: usize, c: usize, most: usize) -> Option<Reach>
-    requires size { (from + c) * size < 18446744073709551616 }
-    requires small { from + c ≤ 2147483647 }
-    ensures { SameSized size from c most result }
+// The lists from..to of one size: one range, or an entry each where the size is 0.
+fn same_sized(size: usize, from: usize, to: usize, most: usize) -> Option<Reach>
+    requires order { from ≤ to }
+    requires fits { to * size ≤ usize.MAX }
+    ensures { SameSized size from (to - from) most result }
 {
-    let to = (from + c) * size;
-    if to > most {
+    let lists = to - from;
+    if to * size > most {
         return None;
     }
-    let bare = if size == 0 { c } else { 0 };
+    let bare = if size == 0 { lists } else { 0 };
     Some(Reach {
-        slots: c,
+        slots: lists,
         from: from * size,
-        to,
+        to: to * size,
         bare,
     })
 }
 
-// c neighbouring slots that are valid.
-fn valid_reach(b: &Branch, k: usize, from: usize, c: usize) -> Option<Reach>
-    requires node { k < length (along b.now) }
-    requires some { 0 < c }
-    requires slots { from + c ≤ (node_on (along b.now) k).slots }
-    requires valid { AllValid (inside b.now) (node_on (along b.now) k) from c }
-    ensures { Reached (inside b.now) (along b.now) k from (from + c) result }
+// Some slots that are all valid.
+fn valid_reach(slots: SlotRange) -> Option<Reach>
+    requires some { slots.from < slots.to }
+    requires valid { AllValid (inside slots.branch.now) (node_on (along slots.branch.now) slots.node) slots.from (slots.to - slots.from) }
+    ensures { ReachedIn slots.entry result }
 {
-    let n = b.nodes[k];
+    let b = slots.branch;
+    let n = b.nodes[slots.node];
     match n.kind {
         Kind::Struct => Some(Reach {
-            slots: c,
-            from,
-            to: from + c,
+            slots: slots.to - slots.from,
+            from: slots.from,
+            to: slots.to,
             bare: 0,
         }),
-        Kind::List => rising(b.offsets32, n.offsets + from, c, b.nodes[k + 1].slots),
-        Kind::LargeList => rising(b.offsets64, n.offsets + from, c, b.nodes[k + 1].slots),
-        Kind::FixedSizeList => same_sized(n.size, from, c, b.nodes[k + 1].slots),
+        Kind::List => rising(
+            &b.offsets32[n.offsets + slots.from..n.offsets + slots.to + 1],
+            b.nodes[slots.node + 1].slots,
+        ),
+        Kind::LargeList => rising(
+            &b.offsets64[n.offsets + slots.from..n.offsets + slots.to + 1],
+            b.nodes[slots.node + 1].slots,
+        ),
+        Kind::FixedSizeList => same_sized(
+            n.size,
+            slots.from,
+            slots.to,
+            b.nodes[slots.node + 1].slots,
+        ),
         _ => None,
     }
 }
@@ -85,7 +96,12 @@ fn alike_reach(slots: SlotRange) -> Option<Reach>
     let b = slots.branch;
     let c = b.same_from(slots.node, slots.from, slots.to);
     if b.is_valid(slots.node, slots.from) {
-        return valid_reach(b, slots.node, slots.from, c);
+        return valid_reach(SlotRange {
+            branch: b,
+            node: slots.node,
+            from: slots.from,
+            to: slots.from + c,
+        });
     }
     b.nodes[slots.node].nullable.then_some(Reach {
         slots: c,
@@ -105,10 +121,12 @@ fn following_reach(slots: SlotRange) -> Option<Reach>
     let nullable = slots.branch.nodes[slots.node].nullable;
     let mut span: Option<(usize, usize)> = None;
     let mut bare: usize = 0;
+    // by number: `Branch` asks by it
     for i in slots.from..slots.to {
         match slots.branch.slot(slots.node, i) {
             Slot::Wrong => return None,
             Slot::Null if !nullable => return None,
+            // in an arm of its own: the proof has no name for which slot it is where the two share one
             Slot::Null => bare += 1,
             Slot::Empty => bare += 1,
             Slot::Spanned((start, stop)) => match span {

@@ -3,8 +3,8 @@ ghost use Rattle.reading.specs.Reading.{node_on};
 
 use reading::Branch;
 
-// The slots from..to of one node of a branch.
-#[derive(Clone, Copy, Drop)]
+// The slots from..to of one node of a branch; those of the root, node 0, are the rows.
+#[derive(Clone, Copy)]
 pub struct SlotRange<'a> {
     pub branch: &'a Branch<'a>,
     pub node: usize,

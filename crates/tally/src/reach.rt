@@ -3,7 +3,7 @@ ghost use Rattle.std.specs.Option.{unwrap_or};
 
 // Some neighbouring slots of a node: their size is that of the child's slots from..to, and `bare` entries more.
 // Two numbers, since a `Range` is not Copy.
-#[derive(Clone, Copy, Drop)]
+#[derive(Clone, Copy)]
 pub struct Reach {
     pub slots: usize,
     pub from: usize,

@@ -1,21 +1,17 @@
-ghost use Rattle.std.specs.Prelude.{◌-◌, ◌<◌, ◌≤◌, length};
-ghost use Rattle.reading.specs.Along.{inside, along};
-ghost use Rattle.reading.specs.Reading.{node_on};
-ghost use Rattle.reading.specs.Trace.{trace};
-ghost use Rattle.tally.specs.Answer.{Added, Tallied, SizedIn};
+ghost use Rattle.std.specs.Prelude.{◌≤◌};
+ghost use Rattle.tally.specs.Answer.{slots_trace, Added, Tallied, SizedIn};
 
 use crate::flat::{is_flat, tally_flat};
 use crate::lists::next_reach;
 use crate::measured::Measured;
 use crate::range::SlotRange;
-use reading::Branch;
 
 // The most entries that a range may have.
 pub const MOST_ENTRIES: usize = 2_147_483_647;
 
 // What is counted so far, with the bare entries of some slots more and what lies below these; too many entries are not counted.
 fn with_more(had: Measured, bare: usize, below: Measured) -> Option<Measured>
-    requires few { had.entries ≤ 2147483647 }
+    requires few { had.entries ≤ MOST_ENTRIES }
     requires had { had.values ≤ had.entries }
     requires below { below.values ≤ below.entries }
     ensures { Added had bare below result }
@@ -72,16 +68,9 @@ fn tally_at(slots: SlotRange) -> Option<Measured>
     Some(all)
 }
 
-// The entries and values of the rows from..to, if the range meets no fault and has at most 2,147,483,647 entries; `None` says nothing.
-pub fn tally(b: Branch, from: usize, to: usize) -> Option<Measured>
-    requires order { from ≤ to }
-    requires slots { to ≤ (node_on (along b) 0).slots }
-    ensures { Tallied (trace (inside b.entry) (along b.entry) from (to - from)) result }
+// The entries and values of some slots, if they meet no fault and have at most 2,147,483,647 entries; `None` says nothing.
+pub fn tally(slots: SlotRange) -> Option<Measured>
+    ensures { Tallied (slots_trace slots.entry) result }
 {
-    tally_at(SlotRange {
-        branch: &b,
-        node: 0,
-        from,
-        to,
-    })
+    tally_at(slots)
 }
