@@ -99,16 +99,16 @@ push_framed ns fs gs x i h e =
 
 module _ (w : Walk) where
   abbrev b : Buffers
-  b = inside w.rows.branch
+  b = inside w.rows.branch.now
 
   abbrev ns : List PathNode
-  ns = along w.rows.branch
+  ns = along w.rows.branch.now
 
   abbrev fs : List Frame
   fs = w.frames.items
 
   abbrev rows : Trace
-  rows = trace b ns w.rows.from (w.rows.to - w.rows.from)
+  rows = trace b (drop w.rows.node ns) w.rows.from (w.rows.to - w.rows.from)
 
   pub popped : (gs : List Frame) (x : Frame) → 0 < length fs → x ≡ innermost fs → x.end ≤ x.next → gs ≡ take (length fs - 1) fs → left b ns w.row gs (length gs) then rows ≡ rest w
   popped gs x some is le e =
@@ -120,7 +120,7 @@ module _ (w : Walk) where
       let n : length gs ≡ length fs = ap length e ∙ length-set fs (length fs - 1) (passed (innermost fs) 1) in
       let m : r ≡ length fs = q ∙ n in
       let i : FrameIn ns (length fs - 1) (innermost fs) = w.framed (length fs - 1) (omega arith) in
-      let few = w.rows.branch.sound.few in
+      let few = w.rows.branch.now.sound.few in
       let deep = w.deep in
       let v : Visit = visit_of (length fs) (innermost fs) (innermost fs).next in
       let one : rest w ≡ visit_trace b ns w.row (length fs) v then (left b ns w.row gs (length fs) then rows) =
@@ -129,11 +129,11 @@ module _ (w : Walk) where
       let P : Frame → ℕ → ℕ → Type 0 = λ y k o. (rest w ≡ visit_trace b ns w.row o (record { node = y.node; slot = y.next; rep = k; def = y.def }) then (left b ns w.row gs o then rows)) × VisitIn ns o (record { node = y.node; slot = y.next; rep = k; def = y.def }) in
       subst (λ y. P y r (length gs)) (sym is) (subst (λ k. P (innermost fs) k (length gs)) (sym m) (subst (P (innermost fs) (length fs)) (sym n) (one, at)))
 
-  pub advance_row : length fs ≡ 0 → w.rows.from < w.rows.to → (rest w ≡ visit_trace b ns w.rows.from (length fs) (record { node = 0; slot = w.rows.from; rep = 0; def = 0 }) then (left b ns w.rows.from fs (length fs) then trace b ns (w.rows.from + 1) (w.rows.to - (w.rows.from + 1)))) × VisitIn ns (length fs) (record { node = 0; slot = w.rows.from; rep = 0; def = 0 })
+  pub advance_row : length fs ≡ 0 → w.rows.from < w.rows.to → (rest w ≡ visit_trace b ns w.rows.from (length fs) (record { node = w.rows.node; slot = w.rows.from; rep = 0; def = 0 }) then (left b ns w.rows.from fs (length fs) then trace b (drop w.rows.node ns) (w.rows.from + 1) (w.rows.to - (w.rows.from + 1)))) × VisitIn ns (length fs) (record { node = w.rows.node; slot = w.rows.from; rep = 0; def = 0 })
   advance_row z lt =
       let m : w.rows.to - w.rows.from - 1 ≡ w.rows.to - (w.rows.from + 1) = omega arith in (
-        ap (λ d. left b ns w.row fs d then rows) z ∙ each_more (λ row. trace_at b row ns 0 0 0 row) (w.rows.to - w.rows.from) w.rows.from (omega arith) ∙ ap₂ (λ d n. trace_at b w.rows.from ns d 0 0 w.rows.from then (left b ns w.rows.from fs d then trace b ns (w.rows.from + 1) n)) (sym z) m,
-        record { under = omega arith; node = w.rows.branch.sound.some; slot = omega (arith, w.rows.slots); rep = omega arith; def = omega arith },
+        ap (λ d. left b ns w.row fs d then rows) z ∙ each_more (λ row. trace_at b row (drop w.rows.node ns) 0 0 0 row) (w.rows.to - w.rows.from) w.rows.from (omega arith) ∙ ap₂ (λ d n. trace_at b w.rows.from (drop w.rows.node ns) d 0 0 w.rows.from then (left b ns w.rows.from fs d then trace b (drop w.rows.node ns) (w.rows.from + 1) n)) (sym z) m,
+        record { under = omega arith; node = w.rows.on; slot = omega (arith, w.rows.within); rep = omega arith; def = omega arith },
       )
 
   -- a further list is entered

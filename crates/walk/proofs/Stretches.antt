@@ -1,5 +1,5 @@
 -- A run of leaves that are alike is one stretch.
-use Rattle.std.proofs.Common.{◌≡◌, ℕ, zero, suc, ◌+◌, ◌-◌, ◌<◌, ◌≤◌, List, [], ◌∷◌, length, set, replicate, Some, None, Ok, Err, Option, IfSome, sym, refl, ap, ◌∙◌, subst, ap₂, arith}
+use Rattle.std.proofs.Common.{◌≡◌, ℕ, zero, suc, ◌+◌, ◌-◌, ◌<◌, ◌≤◌, List, [], ◌∷◌, length, drop, set, replicate, Some, None, Ok, Err, Option, IfSome, sym, refl, ap, ◌∙◌, subst, ap₂, arith}
 use Rattle.table.specs.declared.leaf_path.PathNode.{PathNode}
 use Rattle.table.specs.declared.refusal.Fault.{Fault}
 use Rattle.walk.specs.declared.visit.Frame.{Frame}
@@ -69,16 +69,16 @@ module _ (b : Buffers) (ns : List PathNode) (row : ℕ) (fs : List Frame) (some 
 
 module _ (w : Walk) where
   abbrev b : Buffers
-  b = inside w.rows.branch
+  b = inside w.rows.branch.now
 
   abbrev ns : List PathNode
-  ns = along w.rows.branch
+  ns = along w.rows.branch.now
 
   abbrev fs : List Frame
   fs = w.frames.items
 
   abbrev after_rows : ℕ → Trace
-  after_rows next = trace b ns next (w.rows.to - next)
+  after_rows next = trace b (drop w.rows.node ns) next (w.rows.to - next)
 
   module _ (x : Frame) (some : 0 < length fs) (is : x ≡ innermost fs) where
     pub list_stops : (e : Fault) → Ready w → ChainRun w x (Err e) → rest w ≡ stopped e
@@ -93,9 +93,9 @@ module _ (w : Walk) where
 
   module _ (flat : length fs ≡ 0) (some : w.rows.from < w.rows.to) where
     abbrev go : ℕ → Trace
-    go = λ row. trace_at b row ns 0 0 0 row
+    go = λ row. trace_at b row (drop w.rows.node ns) 0 0 0 row
 
-    pub rows_go : (s : Stretch) → Alike b ns (length fs) (record { node = 0; next = w.rows.from; end = w.rows.to; def = 0 }) s → rest w ≡ emitted s then (left b ns w.rows.from fs (length fs) then after_rows (w.rows.from + s.count))
+    pub rows_go : (s : Stretch) → Alike b ns (length fs) (record { node = w.rows.node; next = w.rows.from; end = w.rows.to; def = 0 }) s → rest w ≡ emitted s then (left b ns w.rows.from fs (length fs) then after_rows (w.rows.from + s.count))
     rows_go s h =
-        let at : Alike b ns 0 (record { node = 0; next = w.rows.from; end = w.rows.to; def = 0 }) s = subst (λ o. Alike b ns o (record { node = 0; next = w.rows.from; end = w.rows.to; def = 0 }) s) flat h in
-        ap (λ d. left b ns w.row fs d then after_rows w.rows.from) flat ∙ alike_split go 0 (record { node = 0; next = w.rows.from; end = w.rows.to; def = 0 }) s at.rep at.first at.inside (λ j lo hi. at.each j j lo hi) ∙ ap (λ d. emitted s then (left b ns w.rows.from fs d then after_rows (w.rows.from + s.count))) (sym flat)
+        let at : Alike b ns 0 (record { node = w.rows.node; next = w.rows.from; end = w.rows.to; def = 0 }) s = subst (λ o. Alike b ns o (record { node = w.rows.node; next = w.rows.from; end = w.rows.to; def = 0 }) s) flat h in
+        ap (λ d. left b ns w.row fs d then after_rows w.rows.from) flat ∙ alike_split go 0 (record { node = w.rows.node; next = w.rows.from; end = w.rows.to; def = 0 }) s at.rep at.first at.inside (λ j lo hi. at.each j j lo hi) ∙ ap (λ d. emitted s then (left b ns w.rows.from fs d then after_rows (w.rows.from + s.count))) (sym flat)

@@ -2,38 +2,41 @@ ghost use Rattle.std.specs.Prelude.{◌≡◌, ◌+◌, ◌-◌, ◌<◌, ◌≤
 ghost use Rattle.reading.specs.Along.{along};
 ghost use Rattle.walk.specs.Frames.{innermost, passed, FramesIn};
 
-use crate::range::RowRange;
 use crate::visit::{Frame, Look, Stretch, Visit};
 use arrayvec::ArrayVec;
 use table::Fault;
+use tally::SlotRange;
 
 // The innermost frame goes past so many elements.
 pub fn pass(frames: &mut ArrayVec<Frame, 8>, count: usize)
     requires some { 0 < length frames.old.items }
-    requires fits { (innermost frames.old.items).next + count ≤ 2147483647 }
+    requires fits { (innermost frames.old.items).next + count ≤ usize.MAX }
     ensures { frames.new.items ≡ slice_set frames.old.items (length frames.old.items - 1) (passed (innermost frames.old.items) count) }
 {
-    let last = frames.len() - 1;
-    frames[last].next += count;
+    if let Some(innermost) = frames.last_mut() {
+        innermost.next += count;
+    }
 }
 
-// A walk over rows: the row that it is in, a frame for each list there, the innermost last, and the rows after this one.
+// A walk over rows, that is slots of the node that it starts at: the row that it is in, a frame for each list there, the innermost last, and
+// the rows after this one.
 #[derive(Drop)]
 pub struct Walk<'a> {
-    pub rows: RowRange<'a>,
+    pub rows: SlotRange<'a>,
     pub frames: ArrayVec<Frame, 8>,
     pub row: usize,
-    ghost framed: { FramesIn (along rows.branch) frames.items },
-    ghost deep: { length frames.items < length (along rows.branch) },
+    ghost framed: { FramesIn (along rows.branch.now) frames.items },
+    ghost deep: { length frames.items < length (along rows.branch.now) },
 }
 
 impl<'a> Walk<'a> {
     ghost use Rattle.std.specs.Prelude.{◌≡◌};
-    ghost use Rattle.walk.specs.Walk.{rows_trace, rest, SlotIn, Ready, Advanced, Descended, Stepped};
+    ghost use Rattle.tally.specs.Answer.{slots_trace};
+    ghost use Rattle.walk.specs.Walk.{rest, SlotIn, Ready, Advanced, Descended, Stepped};
 
     // A walk that stands before some rows.
-    pub fn new(rows: RowRange<'a>) -> Walk<'a>
-        ensures { rest result ≡ rows_trace rows.entry }
+    pub fn new(rows: SlotRange<'a>) -> Walk<'a>
+        ensures { rest result ≡ slots_trace rows.entry }
     {
         Walk {
             rows,
@@ -75,7 +78,7 @@ impl<'a> Walk<'a> {
         self.row = self.rows.from;
         self.rows.from += 1;
         Some(Visit {
-            node: 0,
+            node: self.rows.node,
             slot: self.row,
             rep: 0,
             def: 0,
@@ -107,9 +110,9 @@ impl<'a> Walk<'a> {
         if let Some(run) = self.run()? {
             return Ok(Some(run));
         }
-        match self.advance() {
-            None => Ok(None),
-            Some(v) => Ok(Some(self.descend(v)?)),
-        }
+        let Some(v) = self.advance() else {
+            return Ok(None);
+        };
+        Ok(Some(self.descend(v)?))
     }
 }

@@ -10,10 +10,11 @@ impl Walk<'_> {
     ghost use Rattle.walk.specs.Walk.{SlotIn, Looked};
 
     // What is wrong with a slot of this row.
+    // Inlined with `nulls`: rows are walked faster so.
     #[inline]
     fn fault(&self, cause: Cause, v: Visit) -> Fault
-        requires { v.node < length (along self.now.rows.branch) }
-        ensures { result ≡ record { cause = cause; node = (node_on (along self.now.rows.branch) v.node).number; slot = v.slot; row = self.now.row } }
+        requires { v.node < length (along self.now.rows.branch.now) }
+        ensures { result ≡ record { cause = cause; node = (node_on (along self.now.rows.branch.now) v.node).number; slot = v.slot; row = self.now.row } }
     {
         Fault {
             cause,
@@ -26,9 +27,9 @@ impl Walk<'_> {
     // So many null slots from v's on: an entry each, unless their node is required.
     #[inline]
     pub fn nulls(&self, v: Visit, count: usize) -> Result<Stretch, Fault>
-        requires { v.node < length (along self.now.rows.branch) }
-        ensures ok { IfOk result (λ s. ((node_on (along self.now.rows.branch) v.node).nullable ≡ true) × (s ≡ record { rep = v.rep; def = v.def; count = count; first = None })) }
-        ensures err { IfErr result (λ fault. ((node_on (along self.now.rows.branch) v.node).nullable ≡ false) × (fault ≡ null_fault (node_on (along self.now.rows.branch) v.node) v.slot self.now.row)) }
+        requires { v.node < length (along self.now.rows.branch.now) }
+        ensures ok { IfOk result (λ s. ((node_on (along self.now.rows.branch.now) v.node).nullable ≡ true) × (s ≡ record { rep = v.rep; def = v.def; count = count; first = None })) }
+        ensures err { IfErr result (λ fault. ((node_on (along self.now.rows.branch.now) v.node).nullable ≡ false) × (fault ≡ null_fault (node_on (along self.now.rows.branch.now) v.node) v.slot self.now.row)) }
     {
         if !self.rows.branch.nodes[v.node].nullable {
             return Err(self.fault(Cause::RequiredNull, v));
@@ -44,8 +45,8 @@ impl Walk<'_> {
     // A slot of a list: what it holds is taken apart into its first element and the others.
     fn look_at_list(&self, v: Visit) -> Result<Look, Fault>
         requires slot { SlotIn self.now v }
-        requires leaf { (node_on (along self.now.rows.branch) v.node).kind ≢ Kind.Leaf }
-        requires group { (node_on (along self.now.rows.branch) v.node).kind ≢ Kind.Struct }
+        requires leaf { (node_on (along self.now.rows.branch.now) v.node).kind ≢ Kind.Leaf }
+        requires group { (node_on (along self.now.rows.branch.now) v.node).kind ≢ Kind.Struct }
         ensures { Looked self.now v result }
     {
         let node = v.node + 1;
@@ -93,7 +94,7 @@ impl Walk<'_> {
             return Ok(Look::Ends(self.nulls(v, 1)?));
         }
         let def = v.def + usize::from(n.nullable);
-        if let Kind::Leaf = n.kind {
+        if n.kind == Kind::Leaf {
             return Ok(Look::Ends(Stretch {
                 rep: v.rep,
                 def,

@@ -1,5 +1,5 @@
 // A slot to visit, and the levels that it is handed.
-#[derive(Clone, Copy, Drop)]
+#[derive(Debug, Clone, Copy, PartialEq, Eq)]
 pub struct Visit {
     pub node: usize,
     pub slot: usize,
@@ -8,7 +8,7 @@ pub struct Visit {
 }
 
 // The elements of a list that are still to visit, by their node and definition level.
-#[derive(Clone, Copy, Default, Drop)]
+#[derive(Debug, Clone, Copy, PartialEq, Eq, Default)]
 pub struct Frame {
     pub node: usize,
     pub next: usize,
@@ -17,7 +17,7 @@ pub struct Frame {
 }
 
 // A run of equal entries, with the leaf slots from the first one on if they are present.
-#[derive(Clone, Copy, Drop)]
+#[derive(Debug, Clone, Copy, PartialEq, Eq)]
 pub struct Stretch {
     pub rep: usize,
     pub def: usize,
@@ -42,7 +42,7 @@ impl Stretch {
 }
 
 // What a slot is.
-#[derive(Clone, Copy, Drop)]
+#[derive(Debug, Clone, Copy, PartialEq, Eq)]
 pub enum Look {
     // the end of an entry
     Ends(Stretch),

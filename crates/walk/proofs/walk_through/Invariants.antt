@@ -1,10 +1,11 @@
 use Rattle.std.proofs.Common.{◌≤◌, length}
-use Rattle.walk.specs.Walk.{Counted, rows_trace, rest}
+use Rattle.tally.specs.Answer.{slots_trace}
+use Rattle.walk.specs.Walk.{Counted, rest}
 use Rattle.walk.proofs.walk_through.Given as goal
 
 abbrev pub invariant-loop-found : goal.invariant-loop-found
 invariant-loop-found l =
-    Counted l.counts.entries l.counts.values (rest l.walk) (rows_trace l.rows)
+    Counted l.counts.entries l.counts.values (rest l.walk) (slots_trace l.rows)
     × (l.counts.entries ≤ 2147483647)
     × (l.counts.values ≤ l.counts.entries)
 

@@ -9,6 +9,6 @@ abbrev pub invariant-loop-node : goal.invariant-loop-node
 invariant-loop-node l =
     (l.x.next < l.end)
     × (l.end ≤ l.x.end)
-    × (l.end ≤ (node_on (along l.self.rows.branch) l.node).slots)
+    × (l.end ≤ (node_on (along l.self.rows.branch.now) l.node).slots)
     × (l.def ≤ 2 * l.node)
-    × ((row j : ℕ) → l.x.next ≤ j → j < l.end → visit_trace (inside l.self.rows.branch) (along l.self.rows.branch) row (lists l.self) (visit_of (lists l.self) l.x j) ≡ visit_trace (inside l.self.rows.branch) (along l.self.rows.branch) row (lists l.self) (record { node = l.node; slot = j; rep = lists l.self; def = l.def }))
+    × ((row j : ℕ) → l.x.next ≤ j → j < l.end → visit_trace (inside l.self.rows.branch.now) (along l.self.rows.branch.now) row (lists l.self) (visit_of (lists l.self) l.x j) ≡ visit_trace (inside l.self.rows.branch.now) (along l.self.rows.branch.now) row (lists l.self) (record { node = l.node; slot = j; rep = lists l.self; def = l.def }))

@@ -7,4 +7,4 @@ abbrev pub invariant-down : goal.invariant-down
 invariant-down l = SlotIn l.self l.v × (ahead l.self l.v ≡ ahead l.initial.self l.initial.v)
 
 abbrev pub decreases-down : goal.decreases-down
-decreases-down l = length (along l.self.rows.branch) - l.v.node
+decreases-down l = length (along l.self.rows.branch.now) - l.v.node
