@@ -1,7 +1,7 @@
 -- How the counts change with the levels.
-use Rattle.std.proofs.Common.{◌≡◌, ℕ, ◌+◌, ◌-◌, ◌<◌, ◌≤◌, List, length, get_or, set, ℤ, cond, ◌==◌, ap, arith, w16, SFits, to_z, of_z}
+use Rattle.std.proofs.Common.{◌≡◌, ℕ, ◌+◌, ◌-◌, ◌<◌, ◌≤◌, List, ◌∷◌, ◌∙◌, length, get_or, set, ℤ, cond, ◌==◌, ap, arith, w16, SFits, to_z, of_z}
 use Rattle.std.proofs.lemmas.Int.{to_z-of_z}
-use Rattle.std.proofs.lemmas.List.Sums.{get_or-le-sum_by}
+use Rattle.std.proofs.lemmas.List.Sums.{get_or-le-sum_by, sum_by-cons}
 use Rattle.std.proofs.lemmas.Grind.{common_steps}
 use Rattle.histogram.specs.Tallies.{slot_of, occurrences}
 
@@ -20,3 +20,7 @@ module _ (counts : List ℕ) (x : ℤ) (i : ℕ) (fits : SFits w16 x) (at : i �
 -- a level that stands at a place is among those that are counted
 pub at_place : (k : ℕ) (xs : List ℤ) (i : ℕ) (x : ℤ) → i < length xs → x ≡ get_or xs i x → one k x ≤ occurrences k xs
 at_place k xs i x inside e = omega (arith, get_or-le-sum_by (one k) xs i x inside, ap (one k) e)
+
+-- the next level of a list that is read in order
+pub one_more : (k : ℕ) (xs rest : List ℤ) (x : ℤ) → xs ≡ x ∷ rest → occurrences k xs ≡ one k x + occurrences k rest
+one_more k xs rest x e = ap (occurrences k) e ∙ sum_by-cons (one k) x rest

@@ -1,9 +1,8 @@
 use Rattle.std.proofs.Common.{ap, ◌∙◌, length-set, arith, rules}
-use Rattle.std.proofs.lemmas.List.Sums.{sum_by-cons, sum_by-take-drop}
-use Rattle.std.proofs.lemmas.Result.{err_from_is_err_and}
+use Rattle.std.proofs.lemmas.List.Sums.{sum_by-take-drop}
 use Rattle.histogram.specs.Tallies.{occurrences}
-use Rattle.histogram.proofs.Counts.{one, counted_off}
-use Rattle.histogram.proofs.Same.{unchanged}
+use Rattle.histogram.proofs.Counts.{one, counted_off, one_more}
+use Rattle.histogram.proofs.Same.{passed_on}
 use Rattle.histogram.proofs.HistogramLevelStore.cut_back.Goals as goal
 
 pub loop-level-init : goal.loop-level-init
@@ -19,11 +18,8 @@ loop-level-preserved g c =
     let long = c.loop-level.invariant.0 in
     let off = counted_off counts x c.slot.result (search rules) c.slot.ensures.slot (omega arith) in (
       length-set counts c.slot.result _ ∙ long,
-      λ k h. omega (arith, c.loop-level.invariant.1 k h, off k, ap (occurrences k) c.in-Some.ensures.steps, sum_by-cons (one k) x c.next.new.self),
+      λ k h. omega (arith, c.loop-level.invariant.1 k h, off k, one_more k c.loop-level.level-iterator c.next.new.self x c.in-Some.ensures.steps),
     )
 
 pub returns-in_err-cut_back : goal.returns-in_err-cut_back
-returns-in_err-cut_back g c =
-    let refused = c.in_err-cut_back.ensures in
-    let given = err_from_is_err_and c.from_residual.result c.from_residual.ensures.1 in
-    rw (given.1, given.2) (refused.0, refused.1, unchanged c.args.self.now c.cut_back.new.self refused.2 _)
+returns-in_err-cut_back g c = passed_on _ c.args.self.now c.cut_back.new.self _ _ _ c.from_residual.result c.from_residual.ensures.1 c.in_err-cut_back.ensures
