@@ -18,6 +18,7 @@ fn count_eight<S: LevelStore + Drop>(below: S) -> [u32; SLOTS]
     ensures { (S.meaning below).levels ≡ [] → 8 ≤ (S.meaning below).most → Counted (replicate 4 (pos 3) ++ replicate 4 (pos 5)) result }
 {
     let mut layer = Histogram::new(below);
+    // A store with less room refuses, and nothing is counted.
     let _ = append_both(&mut layer, 3, 5, 4);
     layer.counts()
 }
@@ -53,6 +54,7 @@ struct Trial {
 // Writes, puts, cuts back and reads back.
 fn try_store<S: LevelStore>(store: &mut S) -> Trial {
     let both = append_both(store, 1, -2, 3).is_ok();
+    // As the output has it: -1 where the level was refused.
     let read = append_and_read(store, 7).unwrap_or(-1);
     let put = store.put(1, 4).is_ok();
     let past = store.put(7, 4).is_ok();
@@ -92,15 +94,15 @@ fn main(rt: HostRuntime) -> io::Result<()> {
     println!(rt; "{counts:?}")?;
     let mut data = LevelData::new(&mut memory);
     let empty = data.form();
-    let _ = data.append(2, 6);
+    data.append(2, 6).unwrap();
     let uniform = data.form();
-    let _ = data.append(3, 1);
+    data.append(3, 1).unwrap();
     let mixed = data.form();
     println!(rt; "forms: {empty:?}, {uniform:?}, {mixed:?}")?;
     let mut places = [5; 4];
     let mut list: GrowingList<u32> = GrowingList::new(&mut places);
-    let _ = list.append(8, 3);
-    let refused = list.append(8, 2).err().map_or(0, u8::from);
-    let _ = list.cut_back(1);
+    list.append(8, 3).unwrap();
+    let refused = u8::from(list.append(8, 2).unwrap_err());
+    list.cut_back(1).unwrap();
     println!(rt; "positions: {refused} {places:?}")
 }
