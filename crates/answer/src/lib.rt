@@ -9,14 +9,14 @@ use std::fmt;
 use table::{Fault, Refusal};
 use walk::Measured;
 
-#[derive(Clone, Copy, Drop)]
+#[derive(Clone, Copy)]
 pub enum Answer {
     Leaves(u32),
     Measured(Measured),
 }
 
 // Why an action is refused, with the name of the node that the refusal speaks of, where that has one.
-#[derive(Clone, Copy, PartialEq, Eq, Debug, Drop)]
+#[derive(Clone, Copy, PartialEq, Eq, Debug)]
 pub struct Refused<'a> {
     pub refusal: Refusal,
     pub name: Option<&'a str>,

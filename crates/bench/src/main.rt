@@ -306,7 +306,7 @@ fn main(rt: HostRuntime) -> io::Result<()> {
     let Trials {
         items: slots,
         repeats,
-    } = arguments(&rt)?;
+    } = arguments(&rt, u64::MAX)?;
     leaves(&rt, slots, repeats)?;
     root_lists(&rt, slots / 10, repeats)?;
     other_lists(&rt, slots, repeats)

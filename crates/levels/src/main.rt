@@ -25,6 +25,7 @@ enum Stop {
     Line(#[from] LineFault),
 }
 
+// By hand: a failed allocation is told as a fault of the line.
 impl From<AllocError> for Stop {
     fn from(e: AllocError) -> Stop {
         Stop::Line(e.into())
@@ -39,7 +40,7 @@ struct Job {
 }
 
 // What an action answers, or why it is refused.
-fn answered(table: &Table, action: Action) -> Result<Answer, Refusal> {
+fn answer_to(table: &Table, action: Action) -> Result<Answer, Refusal> {
     let source = table.source();
     Ok(match action {
         Action::Survey => Answer::Leaves(survey(&source)?),
@@ -53,8 +54,8 @@ fn answered(table: &Table, action: Action) -> Result<Answer, Refusal> {
 }
 
 // The same; a refusal goes with the name of the node that it speaks of.
-fn answered_by_name(table: &Table, action: Action) -> Result<Answer, Refused<'_>> {
-    answered(table, action).map_err(|refusal| Refused {
+fn answer_or_refused(table: &Table, action: Action) -> Result<Answer, Refused<'_>> {
+    answer_to(table, action).map_err(|refusal| Refused {
         refusal,
         name: node_of(refusal).and_then(|node| table.name(node)),
     })
@@ -69,7 +70,7 @@ impl Job {
         let Some(action) = self.table.apply(statement)? else {
             return Ok(());
         };
-        match answered_by_name(&self.table, action) {
+        match answer_or_refused(&self.table, action) {
             Ok(answer) => writeln!(self.out, "{action} -> ok {answer}")?,
             Err(refused) => writeln!(self.out, "{action} -> refused {refused}")?,
         }
@@ -81,10 +82,11 @@ impl Job {
         &mut self,
         rt: &HostRuntime,
         name: &str,
-        input: R,
+        lines: R,
     ) -> Result<(), Stop> {
-        let mut reader = BufReader::new(rt.alloc(), input)?;
+        let mut reader = BufReader::new(rt.alloc(), lines)?;
         let mut line = Vec::new(rt.alloc());
+        // a loop that waits on input has to have an end, which no input reaches
         for number in 1..u64::MAX {
             line.clear();
             if reader.read_until(b'\n', &mut line)? == 0 {

@@ -6,30 +6,11 @@ use histogram::Histogram;
 use level_data::LevelData;
 use runs::{Run, RunStore};
 use std::alloc::{AllocError, Global};
+use std::io;
 use std::time::{Clock, Duration, Instant};
-use std::{fmt, io};
 use store::levels::Levels;
 use store::stores::LevelStore;
 use timing::{Trials, arguments, least_time, share};
-
-#[derive(Clone, Copy)]
-enum Make {
-    Data,
-    Runs,
-    CountedData,
-    CountedRuns,
-}
-
-impl fmt::Display for Make {
-    fn fmt<W: fmt::Write>(&self, f: &mut fmt::Formatter<W>) -> fmt::Result {
-        f.write_str(match self {
-            Make::Data => "level data",
-            Make::Runs => "runs",
-            Make::CountedData => "level data under a histogram",
-            Make::CountedRuns => "runs under a histogram",
-        })
-    }
-}
 
 // How many levels a trial appends, in runs of how many.
 #[derive(Clone, Copy)]
@@ -106,71 +87,80 @@ impl Memory {
     fn new(heap: Global, count: u32) -> Result<Memory, AllocError> {
         Ok(Memory {
             levels: vec![in heap; 0i16; count as usize]?,
-            records: vec![in heap; Run { level: 0, count: 0 }; count as usize]?,
+            records: vec![in heap; Run::default(); count as usize]?,
         })
     }
 
-    // Each make is a type of its own here: a dyn store would be timed through its table of functions.
-    fn measure(&mut self, rt: &impl Clock, make: Make, load: Load) -> io::Result<Spent> {
-        let levels = self.levels.as_mut_slice();
-        let records = self.records.as_mut_slice();
-        match make {
-            Make::Data => trial(rt, &mut LevelData::new(levels), load),
-            Make::Runs => trial(rt, &mut RunStore::new(records), load),
-            Make::CountedData => trial(rt, &mut Histogram::new(LevelData::new(levels)), load),
-            Make::CountedRuns => trial(rt, &mut Histogram::new(RunStore::new(records)), load),
-        }
-    }
-
-    // Runs one make, and times it where there are repeats.
-    fn report(
-        &mut self,
-        rt: &(impl Clock + Print),
-        make: Make,
-        load: Load,
-        repeats: u64,
-    ) -> io::Result<()> {
-        let mut spent = self.measure(rt, make, load)?;
-        println!(rt;
-            "{make}, runs of {}: {} levels, sum {}",
-            load.run, spent.length, spent.sum
-        )?;
-        if repeats == 0 {
-            return Ok(());
-        }
-        for _ in 0..repeats {
-            spent = spent.least(self.measure(rt, make, load)?);
-        }
-        show(rt, "appending", spent.write, load.count)?;
-        show(rt, "reading in order", spent.read, load.count)
-    }
-
     // Times a plain fill where there are repeats.
-    fn report_fill(
-        &mut self,
-        rt: &(impl Clock + Print),
-        count: u32,
-        repeats: u64,
-    ) -> io::Result<()> {
+    fn report_fill(&mut self, rt: &(impl Clock + Print), trials: Trials) -> io::Result<()> {
         let levels = self.levels.as_mut_slice();
-        let filled = least_time(rt, repeats, |before| levels.fill((before % 4) as i16))?;
+        let filled = least_time(rt, trials.repeats, |before| {
+            levels.fill((before % 4) as i16)
+        })?;
         match filled {
-            Some(time) => show(rt, "a plain fill", time, count),
+            Some(time) => show(rt, "a plain fill", time, trials.items),
             None => Ok(()),
         }
     }
 }
 
-fn main(rt: HostRuntime) -> io::Result<()> {
-    let Trials {
-        items: count,
-        repeats,
-    } = arguments(&rt)?;
-    let mut memory = Memory::new(rt.alloc(), count)?;
-    for make in [Make::Data, Make::Runs, Make::CountedData, Make::CountedRuns] {
-        for run in [count, 10, 1] {
-            memory.report(&rt, make, Load { count, run }, repeats)?;
+// Tries one make with runs of each length, and times it where there are repeats.
+fn report<F: FnMut(&mut Memory, Load) -> io::Result<Spent>>(
+    rt: &impl Print,
+    memory: &mut Memory,
+    make: &str,
+    trials: Trials,
+    mut measure: F,
+) -> io::Result<()>
+    requires { F.IsAlwaysCallable measure }
+{
+    let count = trials.items;
+    for run in [count, 10, 1] {
+        let load = Load { count, run };
+        let mut spent = measure(memory, load)?;
+        println!(rt;
+            "{make}, runs of {run}: {} levels, sum {}",
+            spent.length, spent.sum
+        )?;
+        if trials.repeats > 0 {
+            for _ in 0..trials.repeats {
+                spent = spent.least(measure(memory, load)?);
+            }
+            show(rt, "appending", spent.write, count)?;
+            show(rt, "reading in order", spent.read, count)?;
         }
     }
-    memory.report_fill(&rt, count, repeats)
+    Ok(())
+}
+
+fn main(rt: HostRuntime) -> io::Result<()> {
+    let trials = arguments(&rt, u64::from(u32::MAX))?;
+    let mut memory = Memory::new(rt.alloc(), trials.items)?;
+    report(&rt, &mut memory, "level data", trials, |m, load| {
+        trial(&rt, &mut LevelData::new(m.levels.as_mut_slice()), load)
+    })?;
+    report(&rt, &mut memory, "runs", trials, |m, load| {
+        trial(&rt, &mut RunStore::new(m.records.as_mut_slice()), load)
+    })?;
+    report(
+        &rt,
+        &mut memory,
+        "level data under a histogram",
+        trials,
+        |m, load| {
+            let store = LevelData::new(m.levels.as_mut_slice());
+            trial(&rt, &mut Histogram::new(store), load)
+        },
+    )?;
+    report(
+        &rt,
+        &mut memory,
+        "runs under a histogram",
+        trials,
+        |m, load| {
+            let store = RunStore::new(m.records.as_mut_slice());
+            trial(&rt, &mut Histogram::new(store), load)
+        },
+    )?;
+    memory.report_fill(&rt, trials)
 }

@@ -20,7 +20,7 @@ pub returns : goal.returns
 returns c =
     let s = c.args.self.now in
     same_whole s.bytes.now s.start c.args.from c.args.end c.requires.some (λ k lo hi.
-        elim c.loop-i-test.branch [
-          | else-loop-i-test w ↦ c.loop-i.invariant.1 k lo (omega (arith, w.loop-i-test.false)) hi
-          | then-loop-i-test+else-other-gt0+else-end-i-gt56 w ↦ all_same s.bytes.now s.start c.args.from c.loop-i.i c.args.end w.min-count.result w.other_bits-other.result c.is_valid-first.result c.is_valid-first.ensures w.other_bits-other.ensures (omega (arith, w.min-count.ensures)) (omega (arith, w.min-count.ensures, w.loop-i-test.true)) c.loop-i.invariant.0 c.loop-i.invariant.1 (omega (arith, w.if-other-gt0.false)) k lo (omega (arith, w.min-count.ensures))
-        ])
+    elim c.loop-i-test.branch [
+      | else-loop-i-test w ↦ c.loop-i.invariant.1 k lo (omega (arith, w.loop-i-test.false)) hi
+      | then-loop-i-test+else-other-gt0+else-end-i-gt56 w ↦ all_same s.bytes.now s.start c.args.from c.loop-i.i c.args.end w.min-count.result w.other_bits-other.result c.is_valid-first.result c.is_valid-first.ensures w.other_bits-other.ensures (omega (arith, w.min-count.ensures)) (omega (arith, w.min-count.ensures, w.loop-i-test.true)) c.loop-i.invariant.0 c.loop-i.invariant.1 (omega (arith, w.if-other-gt0.false)) k lo (omega (arith, w.min-count.ensures))
+    ])
