@@ -1,17 +1,10 @@
 -- The bits behind some whole bytes.
 use Rattle.std.proofs.Common.{◌≡◌, ℕ, ◌+◌, ◌/◌, ◌%◌, ◌^◌, eqb, List, get_or, drop, Some, sym, ap, ◌∙◌, ap₂, arith}
 use Rattle.std.proofs.lemmas.List.{get_or-drop}
-use Rattle.reading.specs.Bits.{bit, SameRun}
+use Rattle.reading.specs.Bits.{bit}
 
 pub bit_behind : (bytes : List ℕ) (start i : ℕ) → bit (drop (start / 8) bytes) (start % 8 + i) ≡ bit bytes (start + i)
 bit_behind bytes start i =
     let q : start / 8 + (start % 8 + i) / 8 ≡ (start + i) / 8 = omega arith in
     let m : (start % 8 + i) % 8 ≡ (start + i) % 8 = omega arith in
     ap₂ (λ x k. eqb (x / 2 ^ k % 2) 1) (get_or-drop (start / 8) bytes ((start % 8 + i) / 8) 0 ∙ ap (λ k. get_or bytes k 0) q) m
-
-pub same_behind : (bytes : List ℕ) (start from end r : ℕ) → SameRun (drop (start / 8) bytes) (Some (start % 8)) from end r → SameRun bytes (Some start) from end r
-same_behind bytes start from end r h = record {
-  some = h.some;
-  inside = h.inside;
-  same = λ k lo hi. sym (bit_behind bytes start k) ∙ h.same k lo hi ∙ bit_behind bytes start from;
-}

@@ -8,7 +8,8 @@ use Rattle.reading.specs.declared.slot.Slot.{Slot}
 use Rattle.reading.specs.declared.validity.Validity.{Validity}
 use Rattle.reading.specs.Bits.{valid_in}
 use Rattle.table.specs.declared.node.Kind.{Kind}
-use Rattle.reading.specs.Slots.{Buffers, Span, span, listed, viewed, span_at, slot_at, held, slot_by, slots_with}
+use Rattle.reading.specs.Slots.{Buffers, Span, span, listed, viewed, span_at, slot_at, held, slot_by}
+use Rattle.reading.specs.Along.{slots_with}
 
 module _ (v : Validity) (spans : ℕ → Span) where
   pub slot_place : (i : ℕ) → i < length (slots_with v spans) → i < v.slots

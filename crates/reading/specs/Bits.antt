@@ -1,6 +1,5 @@
 -- Validity bits.
 use Rattle.std.specs.Prelude.{◌≡◌, ℕ, ◌+◌, ◌*◌, ◌/◌, ◌%◌, ◌^◌, ◌<◌, ◌≤◌, Bool, true, cond, not, List, length, Some, None, Option, ◌==◌, slice_index}
-use Rattle.std.proofs.Props.{props}
 
 -- validity bit b is bit b mod 8, from the lowest, of byte b div 8; 1 means valid
 abbrev pub bit : List ℕ → ℕ → Bool
@@ -19,10 +18,6 @@ differs there f i = cond there (not (f i)) (f i)
 abbrev pub BitsIn : List ℕ → ℕ → Option ℕ → Type 0
 BitsIn bytes slots None = Unit {0}
 BitsIn bytes slots (Some start) = start + slots ≤ 8 * length bytes
-
-pub BitsIn-prop : (bytes : List ℕ) (slots : ℕ) (start : Option ℕ) → IsProp (BitsIn bytes slots start)
-BitsIn-prop bytes slots None = hlevel props
-BitsIn-prop bytes slots (Some start) = hlevel props
 
 -- r slots from `from` on, below `end`, are valid or null as the first of them is
 pub record SameRun (bytes : List ℕ) (start : Option ℕ) (from end r : ℕ) : Type 0 where

@@ -4,4 +4,5 @@ pub mod Slots
 pub mod Reading
 pub mod Trace
 pub mod Sound
+pub mod Single
 pub mod Along

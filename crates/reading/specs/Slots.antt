@@ -1,14 +1,11 @@
 -- What the slots of lists hold: where their elements stand in the list's child.
 use Rattle.std.specs.Prelude.{ℕ, zero, suc, ◌+◌, ◌*◌, ◌^◌, ◌<◌, ◌≤◌, Bool, cond, List, map, length, ℤ, pos, negsuc, ◌-ℤ◌, Some, None, Option, ◌==◌, nat_le, slice_index_or}
 use Rattle.std.specs.List.{range_with_len}
-use Rattle.std.specs.Coded.{×_prop}
-use Rattle.std.proofs.Props.{props}
 use Rattle.table.specs.declared.node.Kind.{Kind}
 use Rattle.table.specs.declared.node.Source.{Source}
 use Rattle.table.specs.declared.leaf_path.PathNode.{PathNode}
 use Rattle.reading.specs.declared.slot.Slot.{Slot}
-use Rattle.reading.specs.declared.validity.Validity.{Validity}
-use Rattle.reading.specs.Bits.{valid_in, BitsIn, BitsIn-prop}
+use Rattle.reading.specs.Bits.{valid_in, BitsIn}
 
 -- the buffers that every node reads: validity bytes, and offsets of either width
 pub record Buffers : Type 0 where
@@ -70,10 +67,6 @@ slot_by there spans i = cond (there i) (held (spans i)) Slot.Null
 abbrev pub slots_by : (ℕ → Bool) → ℕ → (ℕ → Span) → List Slot
 slots_by there count spans = map (slot_by there spans) (range_with_len 0 count)
 
--- the slots of a list that has this validity
-abbrev pub slots_with : Validity → (ℕ → Span) → List Slot
-slots_with v spans = slots_by (valid_in v.bytes.now v.start) v.slots spans
-
 abbrev pub slot_at : Buffers → PathNode → ℕ → ℕ → Slot
 slot_at b n most i = slot_by (valid b n.validity) (span_at b n n.kind most) i
 
@@ -90,15 +83,3 @@ SpansIn b n Kind.LargeListView = (n.offsets + n.slots ≤ length b.wide) × (n.s
 -- what reading a node's slots asks of the buffers
 abbrev pub NodeIn : Buffers → PathNode → Type 0
 NodeIn b n = BitsIn b.bytes n.slots n.validity × SpansIn b n n.kind
-
-pub SpansIn-prop : (b : Buffers) (n : PathNode) (k : Kind) → IsProp (SpansIn b n k)
-SpansIn-prop b n Kind.Leaf = hlevel props
-SpansIn-prop b n Kind.Struct = hlevel props
-SpansIn-prop b n Kind.List = hlevel props
-SpansIn-prop b n Kind.LargeList = hlevel props
-SpansIn-prop b n Kind.FixedSizeList = hlevel props
-SpansIn-prop b n Kind.ListView = hlevel props
-SpansIn-prop b n Kind.LargeListView = hlevel props
-
-pub NodeIn-prop : (b : Buffers) (n : PathNode) → IsProp (NodeIn b n)
-NodeIn-prop b n = ×_prop (BitsIn-prop b.bytes n.slots n.validity) (SpansIn-prop b n n.kind)

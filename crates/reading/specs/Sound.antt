@@ -1,13 +1,12 @@
 -- Paths whose readings stay in the buffers, as those of a source that meets its rules do.
 use Rattle.std.specs.Prelude.{◌≡◌, ℕ, ◌+◌, ◌<◌, ◌≤◌, true, List, length}
-use Rattle.std.proofs.Props.{props}
 use Rattle.table.specs.declared.node.Kind.{Kind}
 use Rattle.table.specs.declared.node.Source.{Source}
 use Rattle.table.specs.declared.leaf_path.PathNode.{PathNode}
 use Rattle.table.specs.Table.{table_holds, is_leaf}
 use Rattle.table.specs.Buffers.{buffers_hold}
 use Rattle.table.specs.Paths.{nodes_to}
-use Rattle.reading.specs.Slots.{Buffers, NodeIn, NodeIn-prop, held_by}
+use Rattle.reading.specs.Slots.{Buffers, NodeIn, held_by}
 use Rattle.reading.specs.Reading.{node_on}
 
 -- the child that a node's slots need
@@ -27,18 +26,6 @@ pub record Sound (b : Buffers) (ns : List PathNode) : Type 0 where
   pub small : (k : ℕ) → k < length ns → (node_on ns k).slots ≤ 2147483647
   pub inside : (k : ℕ) → k < length ns → NodeIn b (node_on ns k)
   pub child : (k : ℕ) → k < length ns → ChildOf ns k (node_on ns k).slots (node_on ns k).kind
-
-pub ChildOf-prop : (ns : List PathNode) (k slots : ℕ) (q : Kind) → IsProp (ChildOf ns k slots q)
-ChildOf-prop ns k slots Kind.Leaf = hlevel props
-ChildOf-prop ns k slots Kind.Struct = hlevel props
-ChildOf-prop ns k slots Kind.List = hlevel props
-ChildOf-prop ns k slots Kind.LargeList = hlevel props
-ChildOf-prop ns k slots Kind.FixedSizeList = hlevel props
-ChildOf-prop ns k slots Kind.ListView = hlevel props
-ChildOf-prop ns k slots Kind.LargeListView = hlevel props
-
-pub Sound-prop : (b : Buffers) (ns : List PathNode) → IsProp (Sound b ns)
-Sound-prop b ns = hlevel (props, NodeIn-prop, ChildOf-prop)
 
 -- the path to a leaf of a source that meets all rules is such a path
 abbrev pub SourcesAreSound : Type 0

@@ -2,6 +2,8 @@ ghost use Rattle.std.specs.Prelude.{◌≡◌, ◌+◌, ◌-◌, ◌*◌, ◌^�
 ghost use Rattle.reading.specs.Bits.{bit};
 ghost use Rattle.reading.specs.Packed.{packed};
 
+use crate::validity::Validity;
+
 // Whether bit b of some bytes is set.
 pub fn bit_at(bytes: &[u8], b: usize) -> bool
     requires { b < 8 * length bytes.now }
@@ -12,7 +14,7 @@ pub fn bit_at(bytes: &[u8], b: usize) -> bool
 
 // So many lowest bits, all set.
 pub fn ones_below(count: usize) -> u64
-    requires { count ≤ 56 }
+    requires { count ≤ Validity.TOGETHER }
     ensures { result ≡ 2 ^ count - 1 }
 {
     (1 << count) - 1
@@ -27,11 +29,12 @@ pub fn word_at(bytes: &[u8], p: usize) -> u64
 }
 
 // A few bits from bit b on, one by one from the last: near the end of the bytes no eight of them are left.
+// Cold and never inlined, since inlined it takes the registers of the loop that calls it (0.12 and not 0.08 ns a leaf).
 #[cold]
 #[inline(never)]
 pub fn last_bits(bytes: &[u8], b: usize, count: usize) -> u64
     requires bits { b + count ≤ 8 * length bytes.now }
-    requires few { count ≤ 56 }
+    requires few { count ≤ Validity.TOGETHER }
     requires small { b < 4294967296 }
     ensures { result ≡ packed (bit bytes.now) count b }
 {

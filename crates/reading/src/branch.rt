@@ -1,5 +1,6 @@
 ghost use Rattle.reading.specs.Slots.{buffers};
-ghost use Rattle.reading.specs.Sound.{Sound, Sound-prop};
+ghost use Rattle.reading.specs.Sound.{Sound};
+ghost use Rattle.reading.specs.Single.{Sound-prop};
 
 use crate::slot::Slot;
 use crate::slots::slot_of;
@@ -51,14 +52,14 @@ impl Branch<'_> {
     // Which of the slots i..i + count of node k are valid, slot i lowest.
     pub fn valid_bits(&self, k: usize, i: usize, count: usize) -> u64
         requires node { k < length (along self.now) }
-        requires few { count ≤ 56 }
+        requires few { count ≤ Validity.TOGETHER }
         requires range { i + count ≤ (node_on (along self.now) k).slots }
         ensures { result ≡ packed (valid (inside self.now) (node_on (along self.now) k).validity) count i }
     {
         self.validity(k).bits(i, count)
     }
 
-    // How many slots of node k from `from` on, below `end`, are valid or null as that one is.
+    // How many slots of node k from `from` on, below `end`, are valid or null as that one is. Inlined, as that of `Validity` is.
     #[inline(always)]
     pub fn same_from(&self, k: usize, from: usize, end: usize) -> usize
         requires node { k < length (along self.now) }

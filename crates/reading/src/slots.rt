@@ -1,7 +1,8 @@
 ghost use Rattle.std.specs.Prelude.{◌≡◌, ◌+◌, ◌*◌, ◌^◌, ◌<◌, ◌≤◌, ℕ, map, length, pos, slice_index_or};
 ghost use Rattle.reading.specs.declared.slot.Slot.TheVariants.{Null};
 ghost use Rattle.reading.specs.declared.validity.Validity.{Validity as ValidityOf};
-ghost use Rattle.reading.specs.Slots.{Span, span as span_of, within, listed, viewed, held, slots_with, slot_at, buffers, NodeIn};
+ghost use Rattle.reading.specs.Slots.{Span, span as span_of, within, listed, viewed, held, slot_at, buffers, NodeIn};
+ghost use Rattle.reading.specs.Along.{slots_with};
 
 use crate::slot::{Offset, Slot, between, fixed, sized};
 use crate::validity::Validity;
@@ -163,18 +164,20 @@ impl<'a> Slots for FixedSlots<'a> {
 }
 
 // What slot i of a node over these buffers holds, in a child of `most` slots; leaves and structs hold no elements.
+// Inlined, so that `Branch::slot` passes no node on.
+#[inline(always)]
 pub fn slot_of(
     bytes: &[u8],
-    offsets32: &[i32],
-    offsets64: &[i64],
+    narrow: &[i32],
+    wide: &[i64],
     n: PathNode,
     most: usize,
     i: usize,
 ) -> Slot
     requires slot { i < n.slots }
     requires small { n.slots ≤ 2147483647 }
-    requires inside { NodeIn (buffers bytes.now offsets32.now offsets64.now) n }
-    ensures { result ≡ slot_at (buffers bytes.now offsets32.now offsets64.now) n most i }
+    requires inside { NodeIn (buffers bytes.now narrow.now wide.now) n }
+    ensures { result ≡ slot_at (buffers bytes.now narrow.now wide.now) n most i }
 {
     let validity = Validity {
         bytes,
@@ -182,13 +185,11 @@ pub fn slot_of(
         slots: n.slots,
     };
     match n.kind {
-        Kind::List => OffsetSlots::new(validity, offsets32, n.offsets, most).slot(i),
-        Kind::LargeList => OffsetSlots::new(validity, offsets64, n.offsets, most).slot(i),
+        Kind::List => OffsetSlots::new(validity, narrow, n.offsets, most).slot(i),
+        Kind::LargeList => OffsetSlots::new(validity, wide, n.offsets, most).slot(i),
         Kind::FixedSizeList => FixedSlots::new(validity, n.size, most).slot(i),
-        Kind::ListView => ViewSlots::new(validity, offsets32, n.offsets, n.sizes, most).slot(i),
-        Kind::LargeListView => ViewSlots::new(validity, offsets64, n.offsets, n.sizes, most).slot(
-            i,
-        ),
+        Kind::ListView => ViewSlots::new(validity, narrow, n.offsets, n.sizes, most).slot(i),
+        Kind::LargeListView => ViewSlots::new(validity, wide, n.offsets, n.sizes, most).slot(i),
         Kind::Leaf | Kind::Struct if validity.is_valid(i) => Slot::Wrong,
         Kind::Leaf | Kind::Struct => Slot::Null,
     }

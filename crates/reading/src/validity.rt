@@ -1,5 +1,6 @@
 ghost use Rattle.std.specs.Prelude.{◌≡◌, ◌+◌, ◌<◌, ◌≤◌};
-ghost use Rattle.reading.specs.Bits.{valid_in, differs, BitsIn, BitsIn-prop, SameRun};
+ghost use Rattle.reading.specs.Bits.{valid_in, differs, BitsIn, SameRun};
+ghost use Rattle.reading.specs.Single.{BitsIn-prop};
 ghost use Rattle.reading.specs.Packed.{packed};
 
 use crate::bits::{bit_at, last_bits, ones_below, word_at};
@@ -51,6 +52,8 @@ impl Validity<'_> {
     }
 
     // Which of the slots i..i + count are not as one that is valid or null, as told; slot i lowest.
+    // Inlined, since `same_from` stands in the loops of other crates, where this would be a call.
+    #[inline(always)]
     fn other_bits(&self, there: bool, i: usize, count: usize) -> u64
         requires few { count ≤ Self.TOGETHER }
         requires range { i + count ≤ self.now.slots }
@@ -64,7 +67,7 @@ impl Validity<'_> {
         }
     }
 
-    // How many slots from `from` on, below `end`, are valid or null as that one is.
+    // How many slots from `from` on, below `end`, are valid or null as that one is. Inlined, since lists ask it of each run, which is often short.
     #[inline(always)]
     pub fn same_from(&self, from: usize, end: usize) -> usize
         requires some { from < end }
@@ -75,12 +78,15 @@ impl Validity<'_> {
             return end - from;
         }
         let first = self.is_valid(from);
-        for i in (from + 1..end).step_by(Self::TOGETHER) {
+        let mut i = from + 1;
+        // `step_by` proves too, but null lists took 0.64 ns an entry with it and 0.62 without
+        while i < end {
             let count = Self::TOGETHER.min(end - i);
             let other = self.other_bits(first, i, count);
             if other > 0 {
                 return i + other.trailing_zeros() as usize - from;
             }
+            i += count;
         }
         end - from
     }

@@ -12,7 +12,7 @@ use store::refusal::Refusal;
 use store::stores::LevelStore;
 
 // `count` levels in a row that are all `level`.
-#[derive(Clone, Copy, Default)]
+#[derive(Clone, Copy, PartialEq, Eq, Debug, Default)]
 pub struct Run {
     pub level: i16,
     pub count: u32,
@@ -60,6 +60,7 @@ fn add(list: &mut GrowingList<Run>, index: u32, run: Run)
 }
 
 // There is a place for each record, so no call on the list is refused. What is said of a spot holds for each place that it stands at.
+// That the list's most stays is said by each call on a `&mut`: no type can say it for them.
 impl Records<'_> {
     fn as_slice(&self) -> &[Run]
         ensures { result.now ≡ list_items self.now.list }

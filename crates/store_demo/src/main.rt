@@ -18,7 +18,7 @@ fn count_eight<S: LevelStore + Drop>(below: S) -> [u32; SLOTS]
     ensures { (S.meaning below).levels ≡ [] → 8 ≤ (S.meaning below).most → Counted (replicate 4 (pos 3) ++ replicate 4 (pos 5)) result }
 {
     let mut layer = Histogram::new(below);
-    // A store with less room refuses, and nothing is counted.
+    // A store with less room refuses both runs.
     let _ = append_both(&mut layer, 3, 5, 4);
     layer.counts()
 }

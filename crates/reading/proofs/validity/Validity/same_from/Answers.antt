@@ -2,7 +2,6 @@ use Rattle.std.proofs.Common.{◌≡◌, ℕ, ◌+◌, ◌<◌, ◌≤◌, arith
 use Rattle.reading.specs.Bits.{valid_in}
 use Rattle.reading.proofs.Runs.{all_same, same_run, same_whole}
 use Rattle.reading.proofs.validity.Validity.same_from.Goals as goal
-use Rattle.reading.proofs.validity.Validity.same_from.Goals.{else-loop-i-test, then-loop-i-test+else-other-gt0+else-end-i-gt56}
 
 pub returns-then-other-gt0 : goal.returns-then-other-gt0
 returns-then-other-gt0 c =
@@ -13,14 +12,10 @@ pub loop-i-preserved : goal.loop-i-preserved
 loop-i-preserved c =
     let s = c.args.self.now in (
       omega (arith, c.loop-i.invariant.0),
-      λ k lo hi m. all_same s.bytes.now s.start c.args.from c.loop-i.i c.args.end c.min-count.result c.other_bits-other.result c.is_valid-first.result c.is_valid-first.ensures c.other_bits-other.ensures (omega (arith, c.min-count.ensures)) (omega (arith, c.min-count.ensures, c.loop-i-test.true)) c.loop-i.invariant.0 c.loop-i.invariant.1 (omega (arith, c.if-other-gt0.false)) k lo (omega (arith, c.min-count.ensures)),
+      λ k lo hi m. all_same s.bytes.now s.start c.args.from c.loop-i.i c.args.end c.min-count.result c.other_bits-other.result c.is_valid-first.result c.is_valid-first.ensures c.other_bits-other.ensures (omega (arith, c.min-count.ensures)) (omega (arith, c.min-count.ensures, c.loop-i-test.true)) c.loop-i.invariant.0 c.loop-i.invariant.1 (omega (arith, c.if-other-gt0.false)) k lo hi,
     )
 
 pub returns : goal.returns
 returns c =
     let s = c.args.self.now in
-    same_whole s.bytes.now s.start c.args.from c.args.end c.requires.some (λ k lo hi.
-    elim c.loop-i-test.branch [
-      | else-loop-i-test w ↦ c.loop-i.invariant.1 k lo (omega (arith, w.loop-i-test.false)) hi
-      | then-loop-i-test+else-other-gt0+else-end-i-gt56 w ↦ all_same s.bytes.now s.start c.args.from c.loop-i.i c.args.end w.min-count.result w.other_bits-other.result c.is_valid-first.result c.is_valid-first.ensures w.other_bits-other.ensures (omega (arith, w.min-count.ensures)) (omega (arith, w.min-count.ensures, w.loop-i-test.true)) c.loop-i.invariant.0 c.loop-i.invariant.1 (omega (arith, w.if-other-gt0.false)) k lo (omega (arith, w.min-count.ensures))
-    ])
+    same_whole s.bytes.now s.start c.args.from c.args.end c.requires.some (λ k lo hi. c.loop-i.invariant.1 k lo (omega (arith, c.loop-i-test.false)) hi)
