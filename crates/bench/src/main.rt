@@ -8,12 +8,9 @@ use job_table::Table;
 use std::alloc::{AllocError, Global};
 use std::io;
 use std::time::Duration;
-use table::{Kind, Node};
+use table::{Kind, NO_PARENT, Node};
 use timing::{Trials, arguments, least_time, share};
 use walk::{Measured, measure};
-
-// What a root has for its parent.
-const NO_PARENT: u8 = 255;
 
 // A tenth of the slots, at random.
 const TENTH: Nulls = Nulls::Percent(10);
