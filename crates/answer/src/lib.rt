@@ -9,7 +9,7 @@ use std::fmt;
 use table::{Fault, Refusal};
 use walk::Measured;
 
-#[derive(Clone, Copy)]
+#[derive(Clone, Copy, PartialEq, Eq, Debug)]
 pub enum Answer {
     Leaves(u32),
     Measured(Measured),

@@ -86,7 +86,8 @@ impl Shape {
         Ok(Some(start.wrapping_mul(8)))
     }
 
-    // A node of a kind, with its validity and no more.
+    // A node of a kind, with its validity and no more. What it has is told in the call, here and below:
+    // a struct of parent, slots and nulls would be made in each call and taken apart here.
     fn node(
         &mut self,
         parent: u8,

@@ -89,6 +89,7 @@ impl<S: LevelStore> LevelStore for Histogram<S> {
 
     fn cut_back(&mut self, kept: u32) -> Result<(), Refusal> {
         let mut counts = self.counts;
+        // as in new, counting off: one line, no plainer as a function of both
         for level in Levels::starting_at(&self.below, kept) {
             counts[slot(level)] -= 1;
         }

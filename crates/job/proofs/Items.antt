@@ -1,6 +1,6 @@
 -- One more word that gives an item. Assumes nothing.
-use Rattle.std.proofs.Common.{◌≡◌, ℕ, ◌+◌, ◌<◌, ◌≤◌, List, [], ◌∷◌, ◌++◌, map, length, get_or, take, Ok, Result, sym, ap, ◌∙◌, subst, Bor}
-use Rattle.std.proofs.lemmas.List.{take_all, map_more}
+use Rattle.std.proofs.Common.{◌≡◌, ℕ, ◌+◌, ◌<◌, List, [], ◌∷◌, ◌++◌, map, length, get_or, take, Ok, Result, sym, subst, Bor}
+use Rattle.std.proofs.lemmas.List.{map_more}
 use Rattle.std.specs.Fn.{Shared, FnReturnsAt}
 use Rattle.line_fault.specs.declared.LineFault.{LineFault}
 use Rattle.job.specs.Lines.{Each, ReadsEach}
@@ -15,9 +15,6 @@ pub each_more : {X : Type 0} (means : List ℕ → Result X LineFault → Type 0
 each_more {X = X} means ws i d xs ys x lt h m e =
     let at : Each means (map (λ w. w.now) (take (i + 1) ws)) (xs ++ (x ∷ [])) = subst (λ (t : List (List ℕ)). Each means t (xs ++ (x ∷ []))) (sym (map_more (λ (w : Bor (List ℕ)). w.now) ws i d lt)) (each_push means (map (λ w. w.now) (take i ws)) xs (get_or ws i d).now x h m) in
     subst (λ (l : List X). Each means (map (λ w. w.now) (take (i + 1) ws)) l) (sym e) at
-
-pub each_all : {X : Type 0} (means : List ℕ → Result X LineFault → Type 0) (ws : List (Bor (List ℕ))) (said : List (List ℕ)) (i : ℕ) (xs : List X) → map (λ w. w.now) ws ≡ said → length ws ≤ i → Each means (map (λ w. w.now) (take i ws)) xs → Each means said xs
-each_all means ws said i xs same le h = subst (λ (l : List (List ℕ)). Each means l xs) (ap (λ (l : List (Bor (List ℕ))). map (λ w. w.now) l) (take_all i ws le) ∙ same) h
 
 weaker : {X : Type 0} (means says : List ℕ → Result X LineFault → Type 0) (ws : List (List ℕ)) (xs : List X) → ((w : List ℕ) (x : X) → means w (Ok x) → says w (Ok x)) → Each means ws xs → Each says ws xs
 weaker means says [] [] k h = h

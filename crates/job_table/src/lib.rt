@@ -109,10 +109,11 @@ mod tests {
     use super::*;
     use statement::Rows;
     use std::test::Fail;
+    use table::{Kind, NO_PARENT};
 
     const LEAF: Node = Node {
-        parent: 255,
-        kind: 0,
+        parent: NO_PARENT,
+        kind: Kind::Leaf as u8,
         nullable: false,
         slots: 1,
         size: 0,

@@ -116,6 +116,7 @@ pub fn kind(text: &[u8]) -> Result<u8, LineFault>
     let number = Kind::ALL
         .iter()
         .position(|kind| is_word(text, kind.word().as_bytes()));
+    // its number is its place: ALL has them in the order of their numbers
     match number {
         Some(number) => Ok(number as u8),
         None => u8::read(text, Key::Kind),

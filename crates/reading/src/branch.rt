@@ -8,7 +8,7 @@ use crate::validity::Validity;
 use table::PathNode;
 
 // The nodes from the root to one leaf, over the buffers that they read.
-#[derive(Clone, Copy, Drop)]
+#[derive(Clone, Copy)]
 pub struct Branch<'a> {
     pub nodes: &'a [PathNode],
     pub validity: &'a [u8],
@@ -17,6 +17,7 @@ pub struct Branch<'a> {
     pub ghost sound: { Sound (buffers validity.now offsets32.now offsets64.now) nodes.now } by { Sound-prop (buffers validity.now offsets32.now offsets64.now) nodes.now },
 }
 
+// Each clause names the node that it is asked about: no plainer by a name for it.
 impl Branch<'_> {
     ghost use Rattle.std.specs.Prelude.{◌≡◌, ◌+◌, ◌<◌, ◌≤◌, length};
     ghost use Rattle.reading.specs.Bits.{SameRun};

@@ -3,7 +3,7 @@ ghost use Rattle.reading.specs.Slots.{span as span_of, within, held};
 
 // What a slot of a list holds: null, nothing, its first place in the child and the place after its last, or what no list can hold.
 // A pair, as docs/TABLE.md says, since a `Range` is not Copy.
-#[derive(Clone, Copy, Drop)]
+#[derive(Clone, Copy, PartialEq, Eq, Debug)]
 pub enum Slot {
     Null,
     Empty,

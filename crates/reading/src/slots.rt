@@ -184,6 +184,7 @@ pub fn slot_of(
         start: n.validity,
         slots: n.slots,
     };
+    // an arm each for the two widths: their buffers differ in type
     match n.kind {
         Kind::List => OffsetSlots::new(validity, narrow, n.offsets, most).slot(i),
         Kind::LargeList => OffsetSlots::new(validity, wide, n.offsets, most).slot(i),

@@ -7,7 +7,7 @@ use crate::bits::{bit_at, last_bits, ones_below, word_at};
 
 // The validity bits of a node's slots, from bit `start` of the bytes on; without a start every slot is valid.
 // A start may be any number, so its whole bytes are passed before anything is added to it.
-#[derive(Clone, Copy, Drop)]
+#[derive(Clone, Copy)]
 pub struct Validity<'a> {
     pub bytes: &'a [u8],
     pub start: Option<usize>,

@@ -24,6 +24,7 @@ impl Load {
     fn append_to<S: LevelStore>(self, store: &mut S) {
         let run = self.run.max(1);
         for k in 0..self.count / run {
+            // each store has room for all of them
             let _ = store.append((k % 4) as i16, run);
         }
     }

@@ -51,6 +51,7 @@ fn child_fits(kind: Option<Kind>, up: Node, node: Node) -> bool
 }
 
 // Whether a node meets the rules of slot counts and buffers.
+// The clauses say which nodes: a source holds a slice of its own, no plainer as a type of both.
 fn is_held(source: &Source, i: usize, node: Node) -> bool
     requires within { i < length source.now.nodes.now }
     requires rising { Rising source.now.nodes.now (length source.now.nodes.now) }

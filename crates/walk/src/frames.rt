@@ -90,6 +90,7 @@ impl<'a> Walk<'a> {
         requires { SlotIn self.old v }
         ensures { Descended self.old v self.new result }
     {
+        // a loop: its arms go on, go on and push, or return
         'down: loop {
             match self.look_at(v)? {
                 Look::Ends(entry) => return Ok(entry),

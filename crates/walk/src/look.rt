@@ -3,6 +3,7 @@ use crate::visit::{Frame, Look, Stretch, Visit};
 use reading::Slot;
 use table::{Cause, Fault, Kind};
 
+// Each clause names the node that it is asked about: no plainer by a name for it.
 impl Walk<'_> {
     ghost use Rattle.std.specs.Prelude.{◌≡◌, ◌<◌, ◌≢◌, true, false, length, None, IfOk, IfErr};
     ghost use Rattle.reading.specs.Along.{along};
