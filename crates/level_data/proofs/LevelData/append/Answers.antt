@@ -3,6 +3,7 @@ use Rattle.std.proofs.lemmas.Int.{to_z-of_z}
 use Rattle.std.proofs.lemmas.List.{length-replicate, replicate-append-replicate}
 use Rattle.level_data.specs.Forms.{form_levels}
 use Rattle.level_data.specs.Data.{data_levels}
+use Rattle.level_data.proofs.Materials.{appended_list}
 use Rattle.level_data.proofs.LevelData.append.Goals as goal
 
 pub returns-in-Uniform-clause-levels : goal.returns-in-Uniform-clause-levels
@@ -21,3 +22,8 @@ returns-in-Uniform-clause-levels c =
           ∙ ap (λ v. data_levels d ++ replicate count v) same;
       most = refl;
     }
+
+pub returns-in-Materialized-clause-levels : goal.returns-in-Materialized-clause-levels
+returns-in-Materialized-clause-levels c =
+    let fits : SFits w16 c.args.level = c.ranges.level in
+    appended_list c.args.self.now _ _ c.in-Materialized.is c.args.level c.args.count c.append.result (simp to_z-of_z at c.append.ensures.list)
