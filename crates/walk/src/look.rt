@@ -11,8 +11,6 @@ impl Walk<'_> {
     ghost use Rattle.walk.specs.Walk.{SlotIn, Looked};
 
     // What is wrong with a slot of this row.
-    // Inlined with `nulls`: rows are walked faster so.
-    #[inline]
     fn fault(&self, cause: Cause, v: Visit) -> Fault
         requires { v.node < length (along self.now.rows.branch.now) }
         ensures { result ≡ record { cause = cause; node = (node_on (along self.now.rows.branch.now) v.node).number; slot = v.slot; row = self.now.row } }
@@ -26,7 +24,6 @@ impl Walk<'_> {
     }
 
     // So many null slots from v's on: an entry each, unless their node is required.
-    #[inline]
     pub fn nulls(&self, v: Visit, count: usize) -> Result<Stretch, Fault>
         requires { v.node < length (along self.now.rows.branch.now) }
         ensures ok { IfOk result (λ s. ((node_on (along self.now.rows.branch.now) v.node).nullable ≡ true) × (s ≡ record { rep = v.rep; def = v.def; count = count; first = None })) }
