@@ -24,7 +24,8 @@ pub struct Histogram<S: LevelStore> {
 impl<S: LevelStore> Histogram<S> {
     // Counts what `below` holds.
     pub fn new(below: S) -> Histogram<S>
-        ensures { result.below ≡ below }
+        ensures below { result.below ≡ below }
+        ensures ordered { S.in_order below → S.in_order result.below }
     {
         let mut counts = [0; SLOTS];
         for level in Levels::new(&below) {
@@ -44,6 +45,9 @@ impl<S: LevelStore> Histogram<S> {
 
 impl<S: LevelStore> LevelStore for Histogram<S> {
     ghost meaning = { λ h. S.meaning h.below };
+
+    // That the counts are those of the levels, its type says.
+    ghost in_order = { λ h. S.in_order h.below };
 
     ghost stands = { λ h. S.stands h.below };
 

@@ -1,3 +1,4 @@
 pub mod Spreads
 pub mod Spots
 pub mod Changes
+pub mod Rests

@@ -1,5 +1,6 @@
 -- Records of a level and a count, and the levels that they stand for.
-use Rattle.std.specs.Prelude.{◌≡◌, ℕ, zero, suc, ◌+◌, ◌<◌, List, [], ◌∷◌, length, take, replicate, ℤ, slice_index_or}
+use Rattle.std.specs.Prelude.{◌≡◌, ℕ, zero, suc, ◌+◌, ◌<◌, List, [], ◌∷◌, length, take, replicate, ℤ, pos, slice_index_or}
+use Rattle.std.proofs.Common.{ap₂}
 use Rattle.std.specs.List.{flat_map, All}
 use Rattle.store.specs.declared.reading.Spot.{Spot}
 use Rattle.runs.specs.declared.Run.{Run}
@@ -16,6 +17,14 @@ pub record Located (items : List Run) (place : ℕ) (t : Spot) : Type 0 where
   pub within : t.index < length items
   pub at : place + (t.offset + 1) ≡ length (spread (take (t.index + 1) items))
   pub inside : (d : Run) → t.offset < (slice_index_or items t.index d).count
+
+-- the record of a vacated place
+abbrev pub no_run : Run
+no_run = record { level = pos 0; count = 0 }
+
+-- it is the only one with a default level and a default count
+pub only_run : (r : Run) → (r.level ≡ pos 0) × (r.count ≡ 0) → r ≡ no_run
+only_run r default = ap₂ (λ level count. record { level = level; count = count }) default.0 default.1
 
 -- a record that stands for no level is left out
 abbrev pub unless_empty : ℤ → ℕ → List Run

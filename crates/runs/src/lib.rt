@@ -6,6 +6,7 @@ ghost use Rattle.runs.specs.Runs.{spread, NoneEmpty, Located, unless_empty};
 ghost use Rattle.store.specs.Growing.{list_items, list_most};
 ghost use Rattle.store.specs.Stores.{Fresh};
 
+use store::blank::Blank;
 use store::growing::GrowingList;
 use store::reading::Spot;
 use store::refusal::Refusal;
@@ -16,6 +17,14 @@ use store::stores::LevelStore;
 pub struct Run {
     pub level: i16,
     pub count: u32,
+}
+
+impl Blank for Run {
+    ghost use Rattle.runs.specs.Runs.{no_run, only_run};
+
+    ghost blank = { no_run };
+
+    ghost only = { only_run };
 }
 
 // Records, none of which is empty; so there are never more of them than levels.
@@ -180,6 +189,9 @@ impl<'a> LevelStore for RunStore<'a> {
     ghost use Rattle.runs.specs.Kept.{run_meaning, RunStands, run_bounded};
 
     ghost meaning = { run_meaning };
+
+    // Its type says all.
+    ghost in_order = { λ _. Unit {0} };
 
     ghost stands = { RunStands };
 

@@ -1,10 +1,11 @@
 -- What the edits of its memory do to a growing list.
-use Rattle.std.proofs.Common.{◌≡◌, ℕ, zero, suc, ◌+◌, ◌-◌, ◌<◌, ◌≤◌, List, [], ◌∷◌, ◌++◌, length, take, drop, set, replicate, Ok, Err, Result, sym, refl, ap, ◌∙◌, arith}
+use Rattle.std.proofs.Common.{◌≡◌, ℕ, zero, suc, ◌+◌, ◌-◌, ◌<◌, ◌≤◌, List, [], ◌∷◌, ◌++◌, length, take, drop, set, replicate, Ok, Err, Result, sym, refl, ap, ◌∙◌, ⊎_elim, subst, arith}
 use Rattle.std.proofs.lemmas.List.{take-take, drop-set-lt, length-set, drop-take}
 use Rattle.store.specs.declared.refusal.Refusal.{Refusal}
+use Rattle.store.specs.declared.refusal.Refusal.TheVariants.{Place, NoRoom}
 use Rattle.store.specs.declared.growing.GrowingList.{GrowingList}
 use Rattle.store.specs.Filled.{filled}
-use Rattle.store.specs.Growing.{list_items, list_memory, list_most, items_long, Grown, Placed, Shortened, Cut, Appended, Written, Widened}
+use Rattle.store.specs.Growing.{list_items, list_memory, list_most, items_long, Grown, Placed, Shortened, Cut, Appended, Written, Widened, Inserted}
 use Rattle.store.proofs.Spans.{filled_long, filled_head, filled_both, filled-rest, filled_middle, shifted, shifted_head, shifted-rest, shifted_long}
 
 take_of_set : {A : Type 0} (n : ℕ) (xs : List A) (i : ℕ) (x : A) → i < n → take n (set xs i x) ≡ set (take n xs) i x
@@ -63,10 +64,13 @@ module _ {A : Type 0} where
       let long = items_long s in
       let same : length (list_memory t) ≡ length xs = ap length m ∙ filled_long xs kept a blank inside (omega arith) in
       let n : t.count ≡ kept = c in
+      let filled_out : take (length (list_items s) - kept) (drop kept (list_memory t)) ≡ replicate (length (list_items s) - kept) blank =
+      ap (λ k. take (k - kept) (drop kept (list_memory t))) long ∙ ap (λ q. take (a - kept) (drop kept q)) m ∙ filled_middle xs kept a blank inside (omega arith) ∙ ap (λ k. replicate (k - kept) blank) (sym long) in
       record {
         inside = omega (arith, long);
         list = ap (λ k. take k (list_memory t)) n ∙ ap (take kept) m ∙ filled_head xs kept a blank inside (omega arith) ∙ sym (take-take kept a xs inside);
-        vacated = (blank, (default, ap (λ k. take (k - kept) (drop kept (list_memory t))) long ∙ ap (λ q. take (a - kept) (drop kept q)) m ∙ filled_middle xs kept a blank inside (omega arith) ∙ ap (λ k. replicate (k - kept) blank) (sym long)));
+        vacated = (blank, (default, filled_out));
+        blank = λ x only. subst (λ q. take (length (list_items s) - kept) (drop kept (list_memory t)) ≡ replicate (length (list_items s) - kept) q) (only blank default) filled_out;
         rest = ap (λ k. drop k (list_memory t)) long ∙ ap (drop a) m ∙ filled-rest xs kept a blank inside (omega arith) ∙ ap (λ k. drop k xs) (sym long);
         size = same;
       }
@@ -94,6 +98,10 @@ module _ {A : Type 0} where
         size = same;
       }
 
+  -- lists over memory of one size can hold as much
+  pub most-same : (s t : GrowingList A) → length (list_memory t) ≡ length (list_memory s) → list_most t ≡ list_most s
+  most-same s t e = omega arith
+
   -- a call that has what it wants is not refused
   pub grown_if : (s t : GrowingList A) (x : A) (more : ℕ) (r : Result (Unit {0}) Refusal) → Appended s t x more r → length (list_items s) + more ≤ list_most s → Grown s t x more
   grown_if s t x more (Ok u) h room = h
@@ -102,6 +110,10 @@ module _ {A : Type 0} where
   pub placed_if : (s t : GrowingList A) (place : ℕ) (x : A) (r : Result (Unit {0}) Refusal) → Written s t place x r → place < length (list_items s) → Placed s t place x
   placed_if s t place x (Ok u) h inside = h
   placed_if s t place x (Err e) h inside = absurd (omega (arith, h.1))
+
+  pub widened_if : (s t : GrowingList A) (place : ℕ) (x : A) (r : Result (Unit {0}) Refusal) → Inserted s t place x r → place ≤ length (list_items s) → length (list_items s) < list_most s → Widened s t place x
+  widened_if s t place x (Ok u) h inside room = h
+  widened_if s t place x (Err e) h inside room = absurd (⊎_elim (λ (p : (e ≡ Place) × (length (list_items s) < place)). omega (arith, p.1)) (λ (p : (e ≡ NoRoom) × (place ≤ length (list_items s)) × (list_most s ≤ length (list_items s))). omega (arith, p.2)) h.0)
 
   pub shortened_if : (is_default : A → Type 0) (s t : GrowingList A) (kept : ℕ) (r : Result (Unit {0}) Refusal) → Cut is_default s t kept r → kept ≤ length (list_items s) → Shortened is_default s t kept
   shortened_if is_default s t kept (Ok u) h inside = h

@@ -61,11 +61,12 @@ module _ {T : Type 0} where
       MatchResult r (λ _. Widened s t place x)
       (λ e. (((e ≡ Place) × (length (list_items s) < place)) ⊎ ((e ≡ NoRoom) × (place ≤ length (list_items s)) × (list_most s ≤ length (list_items s)))) × (t ≡ s))
 
-  -- the first kept elements stay, the places behind them hold one default, and the memory past the old list is untouched
+  -- the first kept elements stay, the places behind them hold one default, which is x where no other value is one, and the memory past the old list is untouched
   pub record Shortened (is_default : T → Type 0) (s t : GrowingList T) (kept : ℕ) : Type 0 where
     pub inside : kept ≤ length (list_items s)
     pub list : list_items t ≡ take kept (list_items s)
     pub vacated : (x : T) × (is_default x × (take (length (list_items s) - kept) (drop kept (list_memory t)) ≡ replicate (length (list_items s) - kept) x))
+    pub blank : (x : T) → ((y : T) → is_default y → y ≡ x) → take (length (list_items s) - kept) (drop kept (list_memory t)) ≡ replicate (length (list_items s) - kept) x
     pub rest : drop (length (list_items s)) (list_memory t) ≡ drop (length (list_items s)) (list_memory s)
     pub size : length (list_memory t) ≡ length (list_memory s)
 

@@ -78,13 +78,13 @@ impl<'a, T: Copy> GrowingList<'a, T> {
         ensures list { Appended self.old self.new x more result }
         ensures lender { self.new.memory.ghost_name ≡ self.old.memory.ghost_name }
     {
-        let from = self.count;
-        if more > self.most() - from {
+        if more > self.most() - self.count {
             return Err(Refusal::NoRoom);
         }
-        let to = from + more;
-        fill(&mut self.memory[from as usize..to as usize], x);
-        self.count = to;
+        // a sum of wide numbers, which the compiler knows not to wrap: so runs of a known length are written without a loop
+        let from = self.count as usize;
+        fill(&mut self.memory[from..from + more as usize], x);
+        self.count += more;
         Ok(())
     }
 

@@ -7,10 +7,12 @@ ghost use Rattle.store.specs.Stores.{Meaning, Appends, Puts, CutsBack, Steps};
 use crate::reading::Spot;
 use crate::refusal::Refusal;
 
-// What a store keeps besides its levels agrees with them by the invariants of its type.
 pub trait LevelStore {
     // The levels, first to last, and the most that it can hold.
     ghost meaning: { Self → Meaning };
+
+    // What it keeps besides agrees with the levels, as far as its type does not say so.
+    ghost in_order: { Self → Type 0 };
 
     // A reading that is at a spot reads the level at a place next.
     ghost stands: { Self → Spot → ℕ → Type 0 };
@@ -42,12 +44,15 @@ pub trait LevelStore {
 
     // Appends `level` `count` times.
     fn append(&mut self, level: i16, count: u32) -> Result<(), Refusal>
-        ensures { Appends meaning self.old self.new level count result };
+        ensures levels { Appends meaning self.old self.new level count result }
+        ensures ordered { in_order self.old → in_order self.new };
 
     fn put(&mut self, place: u32, level: i16) -> Result<(), Refusal>
-        ensures { Puts meaning self.old self.new place level result };
+        ensures levels { Puts meaning self.old self.new place level result }
+        ensures ordered { in_order self.old → in_order self.new };
 
     // Keeps the first `kept` levels.
     fn cut_back(&mut self, kept: u32) -> Result<(), Refusal>
-        ensures { CutsBack meaning self.old self.new kept result };
+        ensures levels { CutsBack meaning self.old self.new kept result }
+        ensures ordered { in_order self.old → in_order self.new };
 }

@@ -14,6 +14,7 @@ pub fn append_and_read<S: LevelStore>(store: &mut S, level: i16) -> Result<i16, 
     ensures appended { OnOk result ((S.meaning store.new).levels ≡ (S.meaning store.old).levels ++ (level ∷ [])) }
     ensures refused { IfErr result (λ e. (e ≡ NoRoom) × ((S.meaning store.old).most ≤ length (S.meaning store.old).levels)) }
     ensures unchanged { OnErr result (store.new ≡ store.old) }
+    ensures ordered { S.in_order store.old → S.in_order store.new }
 {
     let place = store.length();
     store.append(level, 1)?;
@@ -32,6 +33,7 @@ pub fn append_both<S: LevelStore>(
     ensures refusal { IfErr result (λ e. e ≡ NoRoom) }
     ensures unchanged { OnErr result ((S.meaning store.new).levels ≡ (S.meaning store.old).levels) }
     ensures most { (S.meaning store.new).most ≡ (S.meaning store.old).most }
+    ensures ordered { S.in_order store.old → S.in_order store.new }
 {
     let before = store.length();
     store.append(first, count)?;

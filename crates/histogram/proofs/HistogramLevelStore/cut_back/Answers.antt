@@ -21,5 +21,5 @@ loop-level-preserved g c =
       λ k h. omega (arith, c.loop-level.invariant.1 k h, off k, one_more k c.loop-level.level-iterator c.next.new.self x c.in-Some.ensures.steps),
     )
 
-pub returns-in_err-cut_back : goal.returns-in_err-cut_back
-returns-in_err-cut_back g c = passed_on _ c.args.self.now c.cut_back.new.self _ _ _ c.from_residual.result c.from_residual.ensures.1 c.in_err-cut_back.ensures
+pub returns-in_err-cut_back-clause-levels : goal.returns-in_err-cut_back-clause-levels
+returns-in_err-cut_back-clause-levels g c = passed_on _ c.args.self.now c.cut_back.new.self _ _ _ c.from_residual.result c.from_residual.ensures.1 c.in_err-cut_back.ensures.levels

@@ -23,7 +23,7 @@ invariant_of-self-2 g c =
     let read = c.in_ok-old.ensures in
     let off = counted_off s.counts x c.slot.result (search rules) c.slot.ensures.slot (omega arith) in
     let on = counted_on fewer y c.slot-2.result c.ranges.level c.slot-2.ensures.slot (omega (arith, length-set {A = ℕ})) in
-    let put = simp (to_z-of_z, c.ranges.level) at c.in_ok-put.ensures.levels in
+    let put = simp (to_z-of_z, c.ranges.level) at c.in_ok-put.ensures.levels.levels in
     record {
       counted = λ k h. omega (arith, off k, on k, s.counted k h, ap (occurrences k) put, sum_by-set (one k) xs i y x read.0, at_place k xs i x read.0 (read.1 x), ap (one k) (read.1 x));
     }

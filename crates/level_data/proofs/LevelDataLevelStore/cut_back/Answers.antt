@@ -5,8 +5,8 @@ use Rattle.level_data.specs.Forms.{form_levels}
 use Rattle.level_data.specs.Data.{data_levels}
 use Rattle.level_data.proofs.LevelDataLevelStore.cut_back.Goals as goal
 
-pub returns-in-Uniform : goal.returns-in-Uniform
-returns-in-Uniform c =
+pub returns-in-Uniform-clause-levels : goal.returns-in-Uniform-clause-levels
+returns-in-Uniform-clause-levels c =
     let d = c.args.self.now in
     let u = c.in-Uniform in
     let held = u.field-1 in

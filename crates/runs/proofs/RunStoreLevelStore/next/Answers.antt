@@ -9,7 +9,7 @@ use Rattle.runs.proofs.RunStoreLevelStore.next.Goals as goal
 use Rattle.runs.proofs.RunStoreLevelStore.next.Goals.{then-spot-gt0, else-spot-gt0}
 
 pub returns-in_err-run : goal.returns-in_err-run
-returns-in_err-run c = λ n stands. rw c.from_residual.ensures (stands.1 (omega (arith, c.in_err-run.ensures.lookup.3, ap length c.as_slice.ensures)), refl)
+returns-in_err-run c = λ n stands. rw c.from_residual.ensures (omega (arith, stands.1 (omega (arith, c.in_err-run.ensures.lookup.3, ap length c.as_slice.ensures))), refl)
 
 pub returns : goal.returns
 returns c = λ n stands.
