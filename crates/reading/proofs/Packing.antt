@@ -236,6 +236,19 @@ packed_front f end at p q =
     let g : at - 1 + 1 ≡ at = omega arith in
     ap (λ k. packed f k (at - 1)) e ∙ packed_first f (end - at) (at - 1) ∙ ap (λ i. one (f (at - 1)) + 2 * packed f (end - at) i) g
 
+-- one more byte in front
+pub byte_front : (bs : List ℕ) (end at : ℕ) → 0 < at → at ≤ end → get_or bs (at - 1) 0 < 256 → packed (bit bs) (8 * (end - (at - 1))) (8 * (at - 1)) ≡ get_or bs (at - 1) 0 + 256 * packed (bit bs) (8 * (end - at)) (8 * at)
+byte_front bs end at p q h =
+    let e : 8 * (end - (at - 1)) ≡ 8 + 8 * (end - at) = omega arith in
+    let g : 8 * (at - 1) + 8 ≡ 8 * at = omega arith in
+    omega (
+      arith,
+      ap (λ k. packed (bit bs) k (8 * (at - 1))) e,
+      packed_split (bit bs) 8 (8 * (end - at)) (8 * (at - 1)),
+      ap (packed (bit bs) (8 * (end - at))) g,
+      byte_packed bs (at - 1) h,
+    )
+
 pub packed_zero : (f : ℕ → Bool) (k a : ℕ) → k ≡ 0 → packed f k a ≡ 0
 unfolding packed
 packed_zero f k a e = ap (λ n. packed f n a) e

@@ -1,14 +1,13 @@
 -- Slots in a list of slots, and offsets of either width.
-use Rattle.std.proofs.Common.{◌≡◌, ℕ, suc, ◌+◌, ◌*◌, ◌^◌, ◌<◌, ◌≤◌, Bool, true, false, cond, List, map, length, get_or, drop, ℤ, pos, ◌-ℤ◌, sym, ap, ◌∙◌, ap₂, subst, arith}
+use Rattle.std.proofs.Common.{◌≡◌, ℕ, ◌+◌, ◌<◌, Bool, cond, List, map, length, get_or, drop, ℤ, pos, ◌-ℤ◌, sym, ap, ◌∙◌, ap₂, subst, arith}
 use Rattle.std.proofs.lemmas.List.FromFn.{length-map-range_with_len, get_or-map-range_with_len}
 use Rattle.std.proofs.lemmas.List.{map-id, drop-map, get_or-drop}
-use Rattle.std.proofs.lemmas.Bool.{cond-true, cond-false}
 use Rattle.table.specs.declared.leaf_path.PathNode.{PathNode}
 use Rattle.reading.specs.declared.slot.Slot.{Slot}
 use Rattle.reading.specs.declared.validity.Validity.{Validity}
 use Rattle.reading.specs.Bits.{valid_in}
 use Rattle.table.specs.declared.node.Kind.{Kind}
-use Rattle.reading.specs.Slots.{Buffers, Span, span, listed, viewed, span_at, slot_at, held, slot_by}
+use Rattle.reading.specs.Slots.{Buffers, Span, span, listed, viewed, span_at, held, slot_by}
 use Rattle.reading.specs.Along.{slots_with}
 
 module _ (v : Validity) (spans : ℕ → Span) where

@@ -7,15 +7,15 @@ use Rattle.reading.proofs.Behind.{bit_behind}
 use Rattle.reading.specs.Packed.{packed}
 use Rattle.reading.proofs.Packing.{packed_shr, packed_low, packed_ext, packed_clear, trailing_clear, trailing_inside}
 
--- the digits from b on, out of the eight bytes from b's on
-pub cut_out : (f : ℕ → Bool) (b count : ℕ) → count ≤ 56 → packed f 64 (8 * (b / 8)) / 2 ^ (b % 8) % 2 ^ count ≡ packed f count b
-cut_out f b count h =
-    let p : 64 ≡ b % 8 + (64 - b % 8) = omega arith in
+-- the digits from b on, out of n from b's byte on
+pub cut_out : (f : ℕ → Bool) (n b count : ℕ) → b % 8 + count ≤ n → packed f n (8 * (b / 8)) / 2 ^ (b % 8) % 2 ^ count ≡ packed f count b
+cut_out f n b count h =
+    let p : n ≡ b % 8 + (n - b % 8) = omega arith in
     let q : 8 * (b / 8) + b % 8 ≡ b = omega arith in
-    let r : 64 - b % 8 ≡ count + (64 - b % 8 - count) = omega arith in
-    ap (λ n. packed f n (8 * (b / 8)) / 2 ^ (b % 8) % 2 ^ count) p
-    ∙ ap (λ n. n % 2 ^ count) (packed_shr f (b % 8) (64 - b % 8) (8 * (b / 8)) ∙ ap₂ (λ n a. packed f n a) r q)
-    ∙ packed_low f count (64 - b % 8 - count) b
+    let r : n - b % 8 ≡ count + (n - b % 8 - count) = omega arith in
+    ap (λ k. packed f k (8 * (b / 8)) / 2 ^ (b % 8) % 2 ^ count) p
+    ∙ ap (λ k. k % 2 ^ count) (packed_shr f (b % 8) (n - b % 8) (8 * (b / 8)) ∙ ap₂ (λ k a. packed f k a) r q)
+    ∙ packed_low f count (n - b % 8 - count) b
 
 -- the bits behind the whole bytes of a start
 pub packed_behind : (bs : List ℕ) (s i count : ℕ) → packed (bit (drop (s / 8) bs)) count (s % 8 + i) ≡ packed (valid_in bs (Some s)) count i

@@ -28,7 +28,7 @@ pub fn word_at(bytes: &[u8], p: usize) -> u64
     u64::from_le_bytes(*bytes[p..].first_chunk().unwrap())
 }
 
-// A few bits from bit b on, one by one from the last: near the end of the bytes no eight of them are left.
+// A few bits from bit b on, of the bytes that have them, the last one first: near the end of the bytes no eight of them are left.
 // Cold and never inlined, since inlined it takes the registers of the loop that calls it (0.12 and not 0.08 ns a leaf).
 #[cold]
 #[inline(never)]
@@ -38,9 +38,10 @@ pub fn last_bits(bytes: &[u8], b: usize, count: usize) -> u64
     requires small { b < 4294967296 }
     ensures { result ≡ packed (bit bytes.now) count b }
 {
+    let end = (b + count).div_ceil(8);
     let mut word: u64 = 0;
-    for at in (b..b + count).rev() {
-        word = 2 * word + u64::from(bit_at(bytes, at));
+    for at in (b / 8..end).rev() {
+        word = 256 * word + u64::from(bytes[at]);
     }
-    word
+    (word >> (b % 8)) & ones_below(count)
 }

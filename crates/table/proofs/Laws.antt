@@ -1,7 +1,7 @@
 -- What the rules say of a node and of the way to it, as facts for the layers above.
-use Rattle.std.proofs.Common.{◌≡◌, ℕ, zero, suc, ◌+◌, ◌<◌, ◌≤◌, true, cond, ◌&&◌, eqb, List, [], ◌∷◌, ◌++◌, length, get_or, Some, sym, refl, ap, ◌∙◌, subst, inl, inr, arith}
+use Rattle.std.proofs.Common.{◌≡◌, ℕ, zero, suc, ◌+◌, ◌*◌, ◌<◌, ◌≤◌, Bool, true, false, cond, ◌&&◌, eqb, List, [], ◌∷◌, ◌++◌, length, get_or, Some, None, Option, sym, refl, ap, ◌∙◌, subst, inl, inr, arith}
 use Rattle.std.proofs.lemmas.List.{length_push, get_or_push, get_or_append_left}
-use Rattle.std.proofs.lemmas.Bool.{and_parts, leb-true, eqb-true, eq-eqb, cases_eq, cases_lt}
+use Rattle.std.proofs.lemmas.Bool.{and_parts, leb-true, eqb-true, eq-eqb, cases_eq, cases_lt, both_ways}
 use Rattle.table.specs.declared.node.Node.{Node}
 use Rattle.table.specs.declared.node.Kind.{Kind}
 use Rattle.table.specs.declared.node.Source.{Source}
@@ -19,6 +19,13 @@ module _ (ns : List Node) (h : table_holds ns ≡ true) (i : ℕ) (l : i < lengt
   by_kind =
       (and_parts (placed ns i) (kind_fits (kind_of (node_at ns i).kind) (node_at ns i).size (children ns i) (length (line ns i)))
       (each_at (node_fits ns) (length ns) i l (and_parts (few ns) (each_below (length ns) (node_fits ns)) h).1)).1
+
+  pub known_kind : (k : Kind) × (kind_of (node_at ns i).kind ≡ Some k)
+  known_kind = known (kind_of (node_at ns i).kind) by_kind
+    where
+      known : (o : Option Kind) → kind_fits o (node_at ns i).size (children ns i) (length (line ns i)) ≡ true → (k : Kind) × (o ≡ Some k)
+      known None e = let z : ◌≡◌ {A = Bool} true false = sym e in absurd (both_ways true z refl)
+      known (Some k) e = (k, refl)
 
   pub parent_first : 0 < i → parent_of ns i < i
   parent_first p = holds_rising ns h i p l
@@ -74,6 +81,9 @@ module _ (s : Source) (b : buffers_hold s ≡ true) (i : ℕ) (l : i < length s.
 
   pub struct_slots : 0 < i → kind_of up.kind ≡ Some Kind.Struct → node.slots ≡ up.slots
   struct_slots p e = eqb-true node.slots up.slots (subst (λ o. child_fits o up node ≡ true) e (child_as i p held.1))
+
+  pub fixed_slots : 0 < i → kind_of up.kind ≡ Some Kind.FixedSizeList → up.size * up.slots ≤ node.slots
+  fixed_slots p e = leb-true (up.size * up.slots) node.slots (subst (λ o. child_fits o up node ≡ true) e (child_as i p held.1))
 
 -- the way to a node: it ends with the node, and each number on it is the parent of the next
 way_last : (ns : List Node) (k i : ℕ) → 0 < k → (n : ℕ) → length (way ns k i) ≡ n + 1 → get_or (way ns k i) n 0 ≡ i

@@ -19,10 +19,12 @@ pub struct Table<'a> {
 fn count_children(nodes: &[Node], of: usize) -> usize
     ensures { result ≡ children nodes.now of }
 {
-    nodes
-        .iter()
-        .filter(|node| node.parent as usize == of)
-        .count()
+    let mut count = 0;
+    // a sum: `filter` and `count` branch at each node, which takes twice the instructions
+    for node in nodes {
+        count += usize::from(node.parent as usize == of);
+    }
+    count
 }
 
 fn count_leaves(nodes: &[Node]) -> usize

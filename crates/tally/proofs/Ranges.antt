@@ -137,6 +137,11 @@ module _ (b : Buffers) (ns : List PathNode) (sound : Sound b ns) (k from : ℕ) 
   null_reach end c run there true e = nulls end c run there e
   null_reach end c run there false e = tt
 
+  -- what is reached below a nearer end is reached below a later one
+  pub wider : (end c : ℕ) → from + c ≤ end → (r : Option Reach) → Reached b ns k from (from + c) r → Reached b ns k from end r
+  wider end c le None h = tt
+  wider end c le (Some x) h = record { some = h.some; inside = (let i = h.inside in omega arith); order = h.order; child = h.child; size = h.size }
+
   module _ (c : ℕ) (some : 0 < c) (fits : from + c ≤ n.slots) (there : AllValid b n from c) where
     pub structs : n.kind ≡ Kind.Struct → Reaches b ns k from (from + c) (record { slots = c; from = from; to = from + c; bare = 0 })
     structs is =

@@ -1,4 +1,4 @@
-use Rattle.std.proofs.Common.{◌+◌, ◌*◌, map, ℤ, get_or, pos, refl, ◌∙◌}
+use Rattle.std.proofs.Common.{◌+◌, ◌*◌, map, ℤ, get_or, pos, ◌∙◌}
 use Rattle.table.specs.declared.node.Kind.{Kind}
 use Rattle.reading.specs.Slots.{Buffers, buffers, listed, within, span}
 use Rattle.reading.proofs.Places.{listed_own, viewed_own, slot_asked, slot_as}

@@ -1,14 +1,11 @@
-use Rattle.std.proofs.Common.{Bool, eqb, ◌∙◌, rules}
-use borrow.Author.Tests.{tests}
-use Rattle.std.proofs.lemmas.Iterator.{YieldsList-from_slice}
-use Rattle.std.proofs.lemmas.Iterator.Consumers.{YieldsList-from_filter, count_from_yields_List}
-use Rattle.table.specs.declared.node.Node.{Node}
-use Rattle.table.proofs.Counts.{many_nodes}
+use Rattle.std.proofs.Common.{ℕ, ◌+◌, Bool, eqb, arith}
+use Rattle.table.specs.Table.{parent_of}
+use Rattle.table.proofs.Counts.{many_more, many_low}
 use Rattle.table.proofs.rules.count_children.Goals as goal
 
-pub returns : goal.returns
-returns c =
-    let test : Node → Bool = λ node. eqb node.parent c.args.of in
-    count_from_yields_List c.filter.result c.count.result c.count.ensures.ran
-    (YieldsList-from_filter _ test (YieldsList-from_slice c.args.nodes.now cc) c.filter.ensures.closure (λ x b q k. search (rules, tests)))
-    ∙ many_nodes test c.args.nodes.now
+pub loop-node-preserved : goal.loop-node-preserved
+loop-node-preserved c =
+    let test : ℕ → Bool = λ j. eqb (parent_of c.args.nodes.now j) c.args.of in
+    let i = c.loop-node.node-index in
+    let more = many_more test i c.loop-node.count c.loop-node.invariant.1 in
+    (omega (arith, c.from-count.ensures, more, many_low test (i + 1)), omega (arith, c.from-count.ensures, more))

@@ -1,6 +1,4 @@
-use Rattle.std.proofs.Common.{◌<◌, Bool, true, false, cond, sym, ap, ◌∙◌, subst}
-use Rattle.reading.specs.Slots.{held}
-use Rattle.reading.specs.declared.slot.Slot.{Slot}
+use Rattle.std.proofs.Common.{◌<◌, true, false, sym, ◌∙◌, subst}
 use Rattle.reading.proofs.Places.{slot_place, slot_looked}
 use Rattle.reading.proofs.slots.Slots.slot.Goals as goal
 

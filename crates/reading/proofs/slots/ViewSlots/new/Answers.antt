@@ -1,4 +1,4 @@
-use Rattle.std.proofs.Common.{◌≡◌, map, get_or, pos, ap₂, ◌∙◌}
+use Rattle.std.proofs.Common.{map, get_or, pos, ap₂, ◌∙◌}
 use Rattle.std.proofs.lemmas.List.{take_rest}
 use Rattle.reading.specs.Slots.{span}
 use Rattle.reading.proofs.Places.{viewed_behind}

@@ -1,4 +1,4 @@
-use Rattle.std.proofs.Common.{ℕ, ◌+◌, ◌*◌, ◌/◌, ◌%◌, ◌^◌, drop, sym, ap, ◌∙◌, ap₂}
+use Rattle.std.proofs.Common.{ℕ, ◌+◌, ◌*◌, ◌/◌, ◌%◌, ◌^◌, drop, sym, ap, ◌∙◌, ap₂, arith}
 use lib.Bits.{bit_and, and_mask}
 use Rattle.std.proofs.lemmas.List.{take_rest}
 use Rattle.reading.specs.Bits.{bit, valid_in}
@@ -20,7 +20,7 @@ returns-then-i-self c =
     let b : ℕ = s % 8 + i in
     ap₂ (λ x y. bit_and (x / 2 ^ (b % 8)) y) (c.word_at.ensures ∙ ap (λ x. packed (bit x) 64 (8 * (b / 8))) (take_rest bs (s / 8))) c.ones_below-then-i-self.ensures
     ∙ and_mask (packed (bit (drop (s / 8) bs)) 64 (8 * (b / 8)) / 2 ^ (b % 8)) count
-    ∙ cut_out (bit (drop (s / 8) bs)) b count c.requires.few
+    ∙ cut_out (bit (drop (s / 8) bs)) 64 b count (omega (arith, c.requires.few))
     ∙ packed_behind bs s i count
     ∙ ap (λ v. packed (valid_in bs v) count i) (sym c.in-Some.is)
 

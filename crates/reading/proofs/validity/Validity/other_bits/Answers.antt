@@ -1,4 +1,4 @@
-use Rattle.std.proofs.Common.{◌≡◌, ◌-◌, ◌^◌, ap, sym, ◌∙◌, ap₂, arith}
+use Rattle.std.proofs.Common.{◌-◌, ap, sym, ◌∙◌, ap₂, arith}
 use Rattle.reading.specs.Bits.{valid_in, differs}
 use Rattle.reading.specs.Packed.{packed}
 use Rattle.reading.proofs.Packing.{packed_lt, packed_not}

@@ -1,5 +1,4 @@
-use Rattle.std.proofs.Common.{◌≡◌, ℕ, ◌+◌, ◌<◌, ◌≤◌, arith}
-use Rattle.reading.specs.Bits.{valid_in}
+use Rattle.std.proofs.Common.{arith}
 use Rattle.reading.proofs.Runs.{all_same, same_run, same_whole}
 use Rattle.reading.proofs.validity.Validity.same_from.Goals as goal
 
