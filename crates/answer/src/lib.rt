@@ -67,3 +67,16 @@ impl fmt::Display for Refused<'_> {
 }
 
 impl Error for Refused<'_> {}
+
+// How an action went.
+#[derive(Clone, Copy, PartialEq, Eq, Debug)]
+pub struct Outcome<'a>(pub Result<Answer, Refused<'a>>);
+
+impl fmt::Display for Outcome<'_> {
+    fn fmt<W: fmt::Write>(&self, f: &mut fmt::Formatter<W>) -> fmt::Result {
+        match &self.0 {
+            Ok(answer) => write!(f, "ok {answer}"),
+            Err(refused) => write!(f, "refused {refused}"),
+        }
+    }
+}

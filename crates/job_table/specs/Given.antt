@@ -1,7 +1,5 @@
 -- What a table holds, and what a statement gives to it. Assumes nothing.
-use Rattle.std.specs.Prelude.{◌≡◌, ℕ, ℤ, List, [], ◌∷◌, ◌++◌, length, Option, Some, None, cond, ◌==◌, String}
-use Rattle.std.specs.Ordering.{nat_cmp}
-use Rattle.std.specs.BTreeMap.{get}
+use Rattle.std.specs.Prelude.{◌≡◌, ℕ, ℤ, List, [], ◌∷◌, ◌++◌, Option, Some, None, option_map, slice_index_or, String, string_bytes}
 use Rattle.std.specs.declared.alloc.Global.{Global}
 use Rattle.job_table.specs.declared.Table.{Table}
 use Rattle.statement.specs.declared.Action.{Action}
@@ -9,23 +7,27 @@ use Rattle.statement.specs.declared.Statement.{Statement}
 use Rattle.statement.specs.declared.Statement.TheVariants as said
 use Rattle.table.specs.declared.node.Node.{Node}
 
--- the nodes, the name at each node's number, and the buffers
+-- the nodes, the names or lacks of a name in their order, and the buffers
 pub record Contents : Type 0 where
   pub nodes : List Node
-  pub names : ℕ → Option (String Global)
+  pub names : List (Option (String Global))
   pub validity : List ℕ
   pub offsets32 : List ℤ
   pub offsets64 : List ℤ
 
 abbrev pub contents : Table → Contents
-contents t = record { nodes = t.nodes.items; names = get nat_cmp t.names; validity = t.validity.items; offsets32 = t.offsets32.items; offsets64 = t.offsets64.items }
+contents t = record { nodes = t.nodes.items; names = t.names.items; validity = t.validity.items; offsets32 = t.offsets32.items; offsets64 = t.offsets64.items }
 
 abbrev pub blank : Contents
-blank = record { nodes = []; names = λ _. None; validity = []; offsets32 = []; offsets64 = [] }
+blank = record { nodes = []; names = []; validity = []; offsets32 = []; offsets64 = [] }
 
 -- with one node more, which has this name or none
 abbrev pub with_node : Node → Option (String Global) → Contents → Contents
-with_node node name c = record c { nodes = c.nodes ++ (node ∷ []); names = λ k. cond (length c.nodes == k) name (c.names k) }
+with_node node name c = record c { nodes = c.nodes ++ (node ∷ []); names = c.names ++ (name ∷ []) }
+
+-- the name at a number, where there is one
+abbrev pub name_at : List (Option (String Global)) → ℕ → Option (List ℕ)
+name_at names k = option_map string_bytes (slice_index_or names k None)
 
 -- once a statement has been taken in
 abbrev pub after : Statement → Contents → Contents

@@ -1,7 +1,7 @@
 // Reads a job, line by line, from the files that are named or from standard input, and prints what each action does.
 #![tactic(auto)]
 
-use answer::{Answer, Refused, node_of};
+use answer::{Answer, Outcome, Refused, node_of};
 use job::parse;
 use job_table::Table;
 use line_fault::LineFault;
@@ -70,10 +70,8 @@ impl Job {
         let Some(action) = self.table.apply(statement)? else {
             return Ok(());
         };
-        match answer_or_refused(&self.table, action) {
-            Ok(answer) => writeln!(self.out, "{action} -> ok {answer}")?,
-            Err(refused) => writeln!(self.out, "{action} -> refused {refused}")?,
-        }
+        let outcome = Outcome(answer_or_refused(&self.table, action));
+        writeln!(self.out, "{action} -> {outcome}")?;
         Ok(())
     }
 

@@ -19,6 +19,16 @@ impl fmt::Display for Action {
     }
 }
 
+// A text, and a value behind it, written as the formatter asks.
+fn show<W: fmt::Write, D: fmt::Display>(
+    f: &mut fmt::Formatter<W>,
+    before: &str,
+    value: &D,
+) -> fmt::Result {
+    f.write_str(before)?;
+    value.fmt(f)
+}
+
 // A node with all its parts, given or not; a number that no kind has stands for its kind.
 impl fmt::Display for NamedNode {
     fn fmt<W: fmt::Write>(&self, f: &mut fmt::Formatter<W>) -> fmt::Result {
@@ -33,20 +43,20 @@ impl fmt::Display for NamedNode {
             sizes,
         } = self.node;
         match Kind::try_from(kind) {
-            Ok(known) => write!(f, "node {known}")?,
-            Err(_) => write!(f, "node {kind}")?,
+            Ok(known) => show(f, "node ", &known.word())?,
+            Err(_) => show(f, "node ", &kind)?,
         }
-        let nullability = if nullable { "nullable" } else { "required" };
-        write!(
-            f,
-            " {nullability} parent={parent} slots={slots} size={size}"
-        )?;
+        f.write_str(if nullable { " nullable" } else { " required" })?;
+        show(f, " parent=", &parent)?;
+        show(f, " slots=", &slots)?;
+        show(f, " size=", &size)?;
         if let Some(validity) = validity {
-            write!(f, " validity={validity}")?;
+            show(f, " validity=", &validity)?;
         }
-        write!(f, " offsets={offsets} sizes={sizes}")?;
+        show(f, " offsets=", &offsets)?;
+        show(f, " sizes=", &sizes)?;
         if let Some(name) = &self.name {
-            write!(f, " name={name}")?;
+            show(f, " name=", name)?;
         }
         Ok(())
     }
@@ -60,7 +70,7 @@ fn show_each<W: fmt::Write, D: fmt::Display>(
 ) -> fmt::Result {
     f.write_str(word)?;
     for value in values {
-        write!(f, " {value}")?;
+        show(f, " ", value)?;
     }
     Ok(())
 }
@@ -68,7 +78,7 @@ fn show_each<W: fmt::Write, D: fmt::Display>(
 impl fmt::Display for Statement {
     fn fmt<W: fmt::Write>(&self, f: &mut fmt::Formatter<W>) -> fmt::Result {
         match self {
-            Statement::Node(node) => write!(f, "{node}"),
+            Statement::Node(node) => node.fmt(f),
             Statement::Validity(bytes) => {
                 f.write_str("validity")?;
                 bytes.iter().try_for_each(|byte| write!(f, " {byte:02x}"))
@@ -76,7 +86,7 @@ impl fmt::Display for Statement {
             Statement::Offsets32(offsets) => show_each(f, "offsets32", offsets.as_slice()),
             Statement::Offsets64(offsets) => show_each(f, "offsets64", offsets.as_slice()),
             Statement::Clear => f.write_str("clear"),
-            Statement::Do(action) => write!(f, "{action}"),
+            Statement::Do(action) => action.fmt(f),
         }
     }
 }
