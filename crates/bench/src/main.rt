@@ -37,9 +37,9 @@ impl Random {
         })
     }
 
-    // The lengths of so many lists, 5 to 15 each.
-    fn lengths(&mut self, heap: Global, lists: u32) -> Result<Vec<i32>, AllocError> {
-        (0..lists).map(|_| 5 + self.below(11) as i32).collect(heap)
+    // The length of a list, 5 to 15.
+    fn length(&mut self) -> i32 {
+        5 + self.below(11) as i32
     }
 }
 
@@ -54,7 +54,6 @@ enum Nulls {
 // A table of one leaf and its buffers.
 #[derive(Drop)]
 struct Shape {
-    heap: Global,
     table: Table,
     random: Random,
 }
@@ -62,7 +61,6 @@ struct Shape {
 impl Shape {
     fn new(heap: Global) -> Shape {
         Shape {
-            heap,
             table: Table::new(heap),
             random: Random(0x9E37_79B9_7F4A_7C15),
         }
@@ -132,23 +130,25 @@ impl Shape {
         nulls: Nulls,
     ) -> Result<u32, AllocError> {
         let mut node = self.node(parent, kind, slots, nulls)?;
-        let lengths = self.random.lengths(self.heap, slots)?;
+        let random = &mut self.random;
         let narrow = &mut self.table.offsets32;
         let wide = &mut self.table.offsets64;
         let elements = match kind {
             Kind::LargeList => {
                 node.offsets = wide.len() as u64;
-                push_offsets(wide, lengths.as_slice())?
+                push_offsets(wide, slots, random)?
             }
             Kind::ListView => {
                 node.sizes = narrow.len() as u64;
-                narrow.extend_from_slice(lengths.as_slice())?;
+                // the lengths that the starts go by, made twice: a list of them would take memory
+                let mut same = *random;
+                narrow.extend((0..slots).map(|_| same.length()))?;
                 node.offsets = narrow.len() as u64;
-                push_starts(narrow, lengths.as_slice())?
+                push_starts(narrow, slots, random)?
             }
             _ => {
                 node.offsets = narrow.len() as u64;
-                push_offsets(narrow, lengths.as_slice())?
+                push_offsets(narrow, slots, random)?
             }
         };
         self.table.add_node(node, None)?;
@@ -168,15 +168,16 @@ impl Shape {
     }
 }
 
-// Where spans of some lengths begin that follow one another; answers where the last one ends.
+// Where so many spans begin that follow one another; answers where the last one ends.
 fn push_starts<O: From<i32> + Drop>(
     buffer: &mut Vec<O>,
-    lengths: &[i32],
+    spans: u32,
+    random: &mut Random,
 ) -> Result<i32, AllocError> {
     let mut at: i32 = 0;
-    for length in lengths {
+    for _ in 0..spans {
         buffer.push(at.into())?;
-        at = at.wrapping_add(*length);
+        at = at.wrapping_add(random.length());
     }
     Ok(at)
 }
@@ -184,9 +185,10 @@ fn push_starts<O: From<i32> + Drop>(
 // The same, and where the last one ends.
 fn push_offsets<O: From<i32> + Drop>(
     buffer: &mut Vec<O>,
-    lengths: &[i32],
+    spans: u32,
+    random: &mut Random,
 ) -> Result<i32, AllocError> {
-    let end = push_starts(buffer, lengths)?;
+    let end = push_starts(buffer, spans, random)?;
     buffer.push(end.into())?;
     Ok(end)
 }
